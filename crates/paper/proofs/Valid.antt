@@ -1,0 +1,35 @@
+-- What the reading of the files has seen of the clauses, and keeps from step to step.
+-- Assumes nothing.
+use Prim.Native.Nat.{ℕ, _+_, _*_, _/_, _≤_, _<_}
+use mathlib.Core.List.{List, [], _∷_, map}
+use Rattle.paper.specs.Atoms.{_∈_, Clause, Formula, Live, Witness}
+use Rattle.paper.proofs.Lists.{Distinct}
+
+-- codes of the variables 1 to vars
+abbrev pub Codes : ℕ → Clause → Type 0
+Codes vars D = (l : ℕ) → l ∈ D → (2 ≤ l) × (l ≤ 2 * vars + 1)
+
+-- no variable twice
+abbrev pub Apart : Clause → Type 0
+Apart D = Distinct (map (λ l. l / 2) D)
+
+pub record Valid (vars : ℕ) (F : Formula) : Type 0 where
+  pub codes : (n : ℕ) (D : Clause) → Live F n D → Codes vars D
+  pub apart : (n : ℕ) (D : Clause) → Live F n D → Apart D
+
+-- the numbers rise
+abbrev pub Rising : Formula → Type 0
+Rising [] = Unit {0}
+Rising (D ∷ F) = ((m : ℕ) (E : Clause) → Live F m E → D .0 < m) × Rising F
+
+-- every live clause is valid, the numbers rise from 1 on, and the next is above them all
+pub record Kept (vars next : ℕ) (F : Formula) : Type 0 where
+  pub valid : Valid vars F
+  pub rising : Rising F
+  pub from : (n : ℕ) (D : Clause) → Live F n D → (1 ≤ n) × (n < next)
+
+-- a witness: variables 1 to vars, each mapped once, to atoms 0 to 2 vars + 1
+pub record Mapping (vars : ℕ) (s : Witness) : Type 0 where
+  pub variables : (v a : ℕ) → _∈_ {A = ℕ × ℕ} (v, a) s → (1 ≤ v) × (v ≤ vars)
+  pub atoms : (v a : ℕ) → _∈_ {A = ℕ × ℕ} (v, a) s → a ≤ 2 * vars + 1
+  pub once : Distinct (map (λ (m : ℕ × ℕ). m .0) s)
