@@ -1,2 +1,4 @@
 pub mod Lists
 pub mod Valid
+pub mod Soundness
+pub mod Reading

@@ -1,8 +1,12 @@
 -- What the reading of the files has seen of the clauses, and keeps from step to step.
 -- Assumes nothing.
 use Prim.Native.Nat.{ℕ, _+_, _*_, _/_, _≤_, _<_}
+use mathlib.Core.Path.{_≡_}
+use mathlib.Core.Bool.{true}
 use mathlib.Core.List.{List, [], _∷_, map}
 use Rattle.paper.specs.Atoms.{_∈_, Clause, Formula, Live, Witness}
+use Rattle.paper.specs.Files.{Step, RUP-step, SR-step, WSR-step, DELETE-step}
+use Rattle.paper.specs.Refusals.{is-live}
 use Rattle.paper.proofs.Lists.{Distinct}
 
 -- codes of the variables 1 to vars
@@ -33,3 +37,21 @@ pub record Mapping (vars : ℕ) (s : Witness) : Type 0 where
   pub variables : (v a : ℕ) → _∈_ {A = ℕ × ℕ} (v, a) s → (1 ≤ v) × (v ≤ vars)
   pub atoms : (v a : ℕ) → _∈_ {A = ℕ × ℕ} (v, a) s → a ≤ 2 * vars + 1
   pub once : Distinct (map (λ (m : ℕ × ℕ). m .0) s)
+
+-- numbers of live clauses, each above the one before it
+abbrev pub Listed : Formula → ℕ → List ℕ → Type 0
+Listed F last [] = Unit {0}
+Listed F last (n ∷ ns) = (is-live n F ≡ true) × (last < n) × Listed F n ns
+
+-- a new clause, and the number that it would get
+pub record New (vars next : ℕ) (C : Clause) : Type 0 where
+  pub codes : Codes vars C
+  pub apart : Apart C
+  pub number : next < 16384
+
+-- what the reading of a step has seen of it
+abbrev pub Seen : ℕ → Formula → ℕ → Step → Type 0
+Seen vars F next (RUP-step C) = New vars next C
+Seen vars F next (SR-step C s) = New vars next C × Mapping vars s
+Seen vars F next (WSR-step C s modulo) = New vars next C × Mapping vars s × Listed F 0 modulo
+Seen vars F next (DELETE-step ns) = Listed F 0 ns
