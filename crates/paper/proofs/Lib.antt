@@ -2,3 +2,8 @@ pub mod Lists
 pub mod Valid
 pub mod Soundness
 pub mod Reading
+pub mod Propagation
+pub mod Judging
+pub mod Answering
+pub mod Demand3
+pub mod Cases

@@ -104,9 +104,16 @@ pub data Answer (words bytes : ℕ) (formula proof : File) : Verdict → Type 0 
 unfoldable pub memory-after : ℕ → Verdict → List ℕ → List ℕ
 memory-after n v m = elim (eqb (numbersOf v .reason) 1) [ true ↦ m | false ↦ replicate n 0 ++ drop n m ]
 
--- demand 3: "moved by the witness at each SR or WSR step whose new clause fails"
+-- Demand 3: "moved by the witness at each SR or WSR step whose new clause fails"
 unfoldable pub stowed : Step → Stowage → Stowage
 stowed (RUP-step C) I = I
 stowed (SR-step C s) I = carried s C I
 stowed (WSR-step C s modulo) I = carried s C I
 stowed (DELETE-step ns) I = I
+
+-- k steps from a place on are taken: they leave G live, and have carried the stowage I to J
+pub data Carried (proof : File) (vars : ℕ) : ℕ → Formula → ℕ → ℕ → Stowage → Formula → Stowage → Type 0 where
+  start : {F : Formula} {next at : ℕ} {I : Stowage} → Carried proof vars 0 F next at I F I
+  step : {k : ℕ} {F G H : Formula} {next m at later : ℕ} {t : Step} {I J : Stowage} → at < length proof
+      → read-step proof vars F next at ≡ ok (t, later) → Judged F next t (taken H m) → Carried proof vars k H m later (stowed t I) G J
+      → Carried proof vars (suc k) F next at I G J
