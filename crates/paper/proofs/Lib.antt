@@ -1,8 +1,9 @@
 pub mod Lists
 pub mod Valid
+pub mod Values
+pub mod Propagation
 pub mod Soundness
 pub mod Reading
-pub mod Propagation
 pub mod Judging
 pub mod Answering
 pub mod Demand3
