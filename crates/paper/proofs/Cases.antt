@@ -14,6 +14,7 @@ use Rattle.paper.specs.Stowages.{Stowage, variable, value, moved}
 use Rattle.paper.specs.Sweeps.{is-true, put, not-false, visit, visits, sweep, sweeps-to, assume, blank, propagate}
 use Rattle.paper.specs.Refusals.{each, no-two, between, check-clause, read-clauses, read-formula, field-if, read-fields, check-mappings, is-live, check-numbers, to-step, read-step}
 use Rattle.paper.specs.Answers.{refused, Answer}
+use Rattle.paper.specs.Line.{digits, word, line}
 use Rattle.paper.proofs.Judging.{some, trivialises?, rup?, passes?, failing, take-step}
 use Rattle.paper.proofs.Answering.{empty?, at-end, on-read, on-outcome, steps, on-formula, answer, answer-right}
 
@@ -100,6 +101,11 @@ cases-A-to-M c m = subst (Answer 16384 8192 (c .formula) (c .proof)) (each-one c
     each-one (x ∷ l) e c (List·Memᴰ·tail p) =
         let q : map (λ (c : Case). answer 16384 8192 (c .formula) (c .proof)) l ≡ map (λ (c : Case). c .says) l = cc in
         each-one l q c p
+
+-- "For case A .. the whole output is `held 0 1 0`."
+pub line-of-A : line (Held 1) ≡ 104 ∷ 101 ∷ 108 ∷ 100 ∷ 32 ∷ 48 ∷ 32 ∷ 49 ∷ 32 ∷ 48 ∷ 10 ∷ []
+unfolding digits word line
+line-of-A = refl
 
 -- the values of variables 1 and 2
 unfoldable pub pair : Bool → Bool → Stowage

@@ -6,3 +6,4 @@ pub mod Stowages
 pub mod Sweeps
 pub mod Refusals
 pub mod Answers
+pub mod Line
