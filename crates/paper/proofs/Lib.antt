@@ -2,6 +2,7 @@ pub mod Lists
 pub mod Valid
 pub mod Values
 pub mod Propagation
+pub mod Scan
 pub mod Soundness
 pub mod Reading
 pub mod Judging

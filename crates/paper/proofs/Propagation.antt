@@ -4,7 +4,7 @@ use Prim.Native.Nat.{ℕ, zero, suc, _+_, _*_, _-_, _%_, _/_, _≤_, _<_}
 use mathlib.Core.Path.{_≡_, refl, sym, ap, _∙_, subst}
 use mathlib.Core.Logic.{_↔_, _≢_, _⊎_, inl, inr}
 use mathlib.Core.Bool.{Bool, true, false, true≢false, false≢true}
-use mathlib.Core.List.{List, [], _∷_, map, List·Memᴰ·head, List·Memᴰ·tail, List·Memᴰ·eq-of-singleton}
+use mathlib.Core.List.{List, [], _∷_, _++_, List·Memᴰ·head, List·Memᴰ·tail, List·Memᴰ·eq-of-singleton}
 use native.Mathlib.Omega.{arith}
 use native.Mathlib.Decide.{ℕ-discrete}
 use lib.Dec.{eqb}
@@ -13,7 +13,7 @@ use lib.Seq.{getD-set-other}
 use Rattle.paper.specs.Atoms.{complement, _∈_, Clause, Formula, Live}
 use Rattle.paper.specs.Conditions.{Derived, given, unit, Clash, both, broken}
 use Rattle.paper.specs.Sweeps.{Values, is-true, put, not-false, State, visit, visits, sweep, sweeps-to, assume, blank, propagate}
-use Rattle.paper.proofs.Lists.{complement-half, complement-mod, Distinct, eqb-yes, eqb-no, eqb-same, eqb-other, map-in}
+use Rattle.paper.proofs.Lists.{complement-half, complement-mod, Distinct, eqb-same, eqb-other, map-in}
 use Rattle.paper.proofs.Valid.{Codes, Apart, Valid}
 use Rattle.paper.proofs.Values.{when-true, when-false, true-at, not-true-at, never-both, put-out, put-in, put-keep, length-put, not-false-out, not-false-in, not-false-distinct}
 
@@ -200,6 +200,42 @@ module _ (F : Formula) (A : List ℕ) where
   pub blank-sound : (vars : ℕ) → Sound (blank vars)
   unfolding blank
   blank-sound vars = record { known = λ l t. absurd (none-true (suc vars) l t); clashed = λ c. absurd (false≢true c) }
+
+-- more assumptions, or more that follows from them: what was derived still is
+pub derived-more : (F : Formula) (A B : List ℕ) → ((a : ℕ) → a ∈ A → Derived F B a) → {l : ℕ} → Derived F A l → Derived F B l
+derived-more F A B sub (given m) = sub _ m
+derived-more F A B sub (unit live m f) = unit live m (λ k km ne. derived-more F A B sub (f k km ne))
+
+pub clash-more : (F : Formula) (A B : List ℕ) → ((a : ℕ) → a ∈ A → Derived F B a) → Clash F A → Clash F B
+clash-more F A B sub (both p q) = both (derived-more F A B sub p) (derived-more F A B sub q)
+clash-more F A B sub (broken live f) = broken live (λ k km. derived-more F A B sub (f k km))
+
+pub sound-more : (F : Formula) (A B : List ℕ) → ((a : ℕ) → a ∈ A → Derived F B a) → (s : State) → Sound F A s → Sound F B s
+sound-more F A B sub s good =
+    record { known = λ l t. derived-more F A B sub (good .known l t); clashed = λ c. clash-more F A B sub (good .clashed c) }
+
+-- assumptions in two parts
+pub assume-append : (B A : List ℕ) (s : State) → assume B s .clash ≡ false → assume (B ++ A) s ≡ assume A (assume B s)
+assume-append [] A s g = ap (assume A) (sym (assume-none s))
+assume-append (b ∷ B) A s g = go (assume-append B A (assuming b s)) (is-true (s .values) (complement b)) refl
+  where
+    go : (assume B (assuming b s) .clash ≡ false → assume (B ++ A) (assuming b s) ≡ assume A (assume B (assuming b s))) → (t : Bool)
+        → is-true (s .values) (complement b) ≡ t → assume (b ∷ (B ++ A)) s ≡ assume A (assume (b ∷ B) s)
+    go rec true e = absurd (true≢false (sym (ap (λ (t : State). t .clash) (assume-clash b B s e)) ∙ g))
+    go rec false e =
+        assume-next b (B ++ A) s e ∙ rec (sym (ap (λ (t : State). t .clash) (assume-next b B s e)) ∙ g)
+        ∙ ap (assume A) (sym (assume-next b B s e))
+
+-- and a clash in the first part is the answer
+pub assume-append-clash : (B A : List ℕ) (s : State) → s .clash ≡ false → assume B s .clash ≡ true → assume (B ++ A) s ≡ assume B s
+assume-append-clash [] A s h g = absurd (true≢false (sym g ∙ ap (λ (t : State). t .clash) (assume-none s) ∙ h))
+assume-append-clash (b ∷ B) A s h g = go (assume-append-clash B A (assuming b s) refl) (is-true (s .values) (complement b)) refl
+  where
+    go : (assume B (assuming b s) .clash ≡ true → assume (B ++ A) (assuming b s) ≡ assume B (assuming b s)) → (t : Bool)
+        → is-true (s .values) (complement b) ≡ t → assume (b ∷ (B ++ A)) s ≡ assume (b ∷ B) s
+    go rec true e = assume-clash b (B ++ A) s e ∙ sym (assume-clash b B s e)
+    go rec false e =
+        assume-next b (B ++ A) s e ∙ rec (sym (ap (λ (t : State). t .clash) (assume-next b B s e)) ∙ g) ∙ sym (assume-next b B s e)
 
 -- 3. The measure: how many values are unset.
 open-at : ℕ → ℕ
@@ -529,6 +565,10 @@ module _ (vars : ℕ) (F : Formula) (valid : Valid vars F) where
 
   pub sweeps-fit : (n : ℕ) (s : State) → Fits vars (s .values) → Fits vars (sweeps-to n F s .values)
   sweeps-fit n s fits = sweeps-swept vars F (valid .codes) n s fits .fits
+
+  -- what is true stays true
+  pub sweeps-keep : (n : ℕ) (s : State) → Fits vars (s .values) → (l : ℕ) → is-true (s .values) l ≡ true → is-true (sweeps-to n F s .values) l ≡ true
+  sweeps-keep n s fits = sweeps-swept vars F (valid .codes) n s fits .grows
 
   pub sweep-literals : (s : State) → Fits vars (s .values) → sweep F s .literals ≤ s .literals + vars
   sweep-literals s fits =
