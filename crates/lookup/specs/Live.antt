@@ -1,0 +1,20 @@
+-- The live clauses that the clause table holds, by rising number.
+use Prim.Native.Nat.{ℕ, suc}
+use mathlib.Core.Bool.{true, false}
+use mathlib.Core.List.{List, [], _∷_}
+use lib.Dec.{eqb}
+use Rattle.paper.specs.Atoms.{Formula}
+use Rattle.paper.specs.Files.{File, codes}
+use Rattle.lookup.specs.Clause.{clauseBytes}
+
+-- those of the words from number k on: "Equal clauses under two numbers are two clauses."
+unfoldable pub live-from : File → File → ℕ → List ℕ → Formula
+live-from f p k [] = []
+live-from f p k (w ∷ ws) =
+    elim (eqb w 0) [
+      | true ↦ live-from f p (suc k) ws
+      | false ↦ (k, codes (clauseBytes f p w)) ∷ live-from f p (suc k) ws
+    ]
+
+unfoldable pub live : File → File → List ℕ → Formula
+live f p ws = live-from f p 0 ws
