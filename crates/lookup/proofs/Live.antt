@@ -3,7 +3,7 @@
 use Prim.Native.Nat.{ℕ, zero, suc, _+_, _-_, _/_, _%_, _≤_, _<_}
 use mathlib.Core.Path.{_≡_, refl, sym, ap, _∙_, subst}
 use mathlib.Core.Logic.{_≢_}
-use mathlib.Core.Bool.{Bool, true, false, not, _||_}
+use mathlib.Core.Bool.{Bool, true, false, not, _||_, true≢false, false≢true}
 use mathlib.Core.List.{List, [], _∷_, _++_, List·Memᴰ·head, List·Memᴰ·tail}
 use native.Mathlib.Omega.{arith}
 use native.Mathlib.Numerals.{add-one}
@@ -20,7 +20,7 @@ use Rattle.paper.proofs.Lists.{eqb-yes, eqb-no, eqb-same, eqb-other, leb-within
 use Rattle.field.specs.Field.{extentAt}
 use Rattle.field.proofs.Laws.{Stands, stands}
 use Rattle.lookup.specs.Clause.{payloadAt, clauseBytes, formulaWord, proofWord}
-use Rattle.lookup.specs.Live.{live-from, live}
+use Rattle.lookup.specs.Live.{live-from, live, EmptyLive}
 use Rattle.lookup.proofs.Clause.{clause-formula, clause-proof}
 
 -- A loop over the numbers: one that is not live, one that is, and the end.
@@ -349,3 +349,27 @@ unfolding codes
 codes-some [] h e = absurd (omega arith)
 codes-some (x ∷ []) h e = absurd (omega arith)
 codes-some (x ∷ y ∷ b) h e = let z : _≡_ {A = ℕ} 0 1 = cc in absurd (omega arith)
+
+-- the search for an empty clause: a word that stands for none
+abbrev pub NotEmpty : File → File → ℕ → Type 0
+NotEmpty f p w = w ≢ 0 → 2 ≤ length (clauseBytes f p w)
+
+module _ (f p : File) (w : ℕ) where
+  pub long-clause : (b : List ℕ) → b ≡ clauseBytes f p w → 2 ≤ length b → NotEmpty f p w
+  long-clause b q h ne = rw (← q) h
+
+  pub no-clause : w ≡ 0 → NotEmpty f p w
+  no-clause e ne = absurd (ne e)
+
+module _ (f p : File) (ws : List ℕ) where
+  pub empty-found : (n : ℕ) → n < length ws → getD ws n 0 ≢ 0 → (b : List ℕ) → b ≡ clauseBytes f p (getD ws n 0) → length b < 2 → EmptyLive f p ws true
+  empty-found n h ne b q short = record { some = λ e. (n, live-in f p ws word); none = λ e. absurd (true≢false e) }
+    where
+      word : Word f p ws n []
+      word = record { within = h; entered = ne; clause = sym (codes-none (clauseBytes f p (getD ws n 0)) (rw q at short)) }
+
+  pub empty-nowhere : ((k : ℕ) → k < length ws → NotEmpty f p (getD ws k 0)) → EmptyLive f p ws false
+  empty-nowhere all = record { some = λ e. absurd (false≢true e); none = λ e n q. no-word n (live-out f p ws q) }
+    where
+      no-word : (n : ℕ) → Word f p ws n [] → ⊥
+      no-word n w = codes-some (clauseBytes f p (getD ws n 0)) (all n (w .within) (w .entered)) (sym (w .clause))

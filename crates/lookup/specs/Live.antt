@@ -1,9 +1,10 @@
 -- The live clauses that the clause table holds, by rising number.
 use Prim.Native.Nat.{ℕ, suc}
-use mathlib.Core.Bool.{true, false}
+use mathlib.Core.Path.{_≡_}
+use mathlib.Core.Bool.{Bool, true, false}
 use mathlib.Core.List.{List, [], _∷_}
 use lib.Dec.{eqb}
-use Rattle.paper.specs.Atoms.{Formula}
+use Rattle.paper.specs.Atoms.{Formula, Live}
 use Rattle.paper.specs.Files.{File, codes}
 use Rattle.lookup.specs.Clause.{clauseBytes}
 
@@ -18,3 +19,8 @@ live-from f p k (w ∷ ws) =
 
 unfoldable pub live : File → File → List ℕ → Formula
 live f p ws = live-from f p 0 ws
+
+-- "Refuted: .. an empty clause is live after the last. Held: .. none is."
+pub record EmptyLive (f p : File) (ws : List ℕ) (r : Bool) : Type 0 where
+  pub some : r ≡ true → (n : ℕ) × Live (live f p ws) n []
+  pub none : r ≡ false → (n : ℕ) → ¬ (Live (live f p ws) n [])

@@ -1,9 +1,11 @@
 // The clause table by number: one word for each clause number. A word is 0 where no clause of that number is live, else
 // 1,048,576 (the clause stands in the formula) or 2,097,152 (in the proof) plus the offset of the clause's tag in that file.
 ghost use mathlib.Core.Path.{_≡_};
+ghost use mathlib.Core.Bool.{true, false};
 ghost use Prim.Native.Nat.{_<_};
 ghost use lib.ListN.{length, getD, set};
 ghost use Rattle.lookup.specs.Clause.{payloadAt, clauseBytes, formulaWord, proofWord};
+ghost use Rattle.lookup.specs.Live.{EmptyLive};
 
 // The payload of the field whose tag is at a place; nothing where the file ends before the field does.
 pub fn payload_at(s: &[u8], at: usize) -> &[u8]
@@ -76,4 +78,21 @@ pub fn remove(words: &mut [u32], n: usize)
     ensures { λ r. ⌜ now (words .exit) ≡ set (now (words .entry)) n 0 ⌝ }
 {
     words[n] = 0;
+}
+
+// Whether an empty clause is live. A payload of fewer than two bytes holds no code.
+pub fn has_empty<'a>(formula: &'a [u8], proof: &'a [u8], words: &[u32]) -> bool
+    ensures { λ r. ⌜ EmptyLive (now (formula .entry)) (now (proof .entry)) (now (words .entry)) r ⌝ }
+{
+    let mut n = 0;
+    while n < words.len() {
+        if words[n] != 0 {
+            let clause = clause_at(formula, proof, words, n);
+            if clause.len() < 2 {
+                return true;
+            }
+        }
+        n += 1;
+    }
+    false
 }
