@@ -106,6 +106,11 @@ stands why tag allowed f at e q =
     go true true true false t l h q = let z : _≡_ {A = ℕ} 0 1 = cc in absurd (omega arith)
     go true true true true t l h q = yes-stands (cc) t l h
 
+-- found: so it stands there
+pub found-stands : (why : Reason) (tag : ℕ) (allowed : ℕ → Bool) (f : File) (at : ℕ) (e : Extent)
+    → Found e ≡ expectedOf (field why tag allowed f at) → Stands tag allowed f at e
+found-stands why tag allowed f at e q = stands why tag allowed f at e (found why tag allowed f at e q)
+
 -- what the cursor's reading says of the field that must stand there
 unfoldable pub judged : ℕ → (ℕ → Bool) → FieldRead → Expected
 judged tag allowed (Whole t e next) = elim (eqb t tag) [ true ↦ elim (allowed (e .size)) [ true ↦ Found e | false ↦ Wrong ] | false ↦ Wrong ]

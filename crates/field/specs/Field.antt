@@ -33,10 +33,10 @@ fieldAt f at =
     ]
 
 -- "HEAD has length 4, code and number lists even length, a WITNESS a multiple of 4"
-unfoldable pub allowedBy : Length → ℕ → Bool
-allowedBy Four n = four n
-allowedBy Even n = even n
-allowedBy Fours n = fours n
+abbrev pub allowedBy : Length → ℕ → Bool
+allowedBy Four = four
+allowedBy Even = even
+allowedBy Fours = fours
 
 -- what the paper's reading of a field finds, but for the reason and its place
 unfoldable pub expectedOf : Read Extent → Expected

@@ -17,15 +17,15 @@ enum-told-3 : tie.Need-enum-told-3
 enum-told-3 c = search needs
 
 returns : tie.Need-returns
-unfolding allowedBy four even fours
+unfolding four
 returns c = sym (ap (λ (l : Length). allowedBy l (c .before .before .args .n)) (c .enum-told .given .1))
 
 returns-2 : tie.Need-returns-2
-unfolding allowedBy four even fours
+unfolding even
 returns-2 c = sym (ap (λ (l : Length). allowedBy l (c .before .before .args .n)) (c .enum-told2 .given .1))
 
 returns-3 : tie.Need-returns-3
-unfolding allowedBy four even fours
+unfolding fours
 returns-3 c = sym (ap (λ (l : Length). allowedBy l (c .before .before .args .n)) (c .enum-told3 .given .1))
 
 pub allowed-spec : {M : Type 1} → statement M
