@@ -138,20 +138,20 @@ module _ (t : List ℕ) (v x : ℕ) where
   unfolding setImage
   length-setImage = simp length-set
 
-  first-setImage : v * 2 < length t → getD (setImage t v x) (v * 2) 0 ≡ getD t (v * 2) 0 % 4 + 4 + x / 256 * 8
+  pub first-setImage : v * 2 < length t → getD (setImage t v x) (v * 2) 0 ≡ getD t (v * 2) 0 % 4 + 4 + x / 256 * 8
   unfolding setImage
   first-setImage h = first-at t v (getD t (v * 2) 0 % 4 + 4 + x / 256 * 8) (x % 256) h
 
-  second-setImage : v * 2 + 1 < length t → getD (setImage t v x) (v * 2 + 1) 0 ≡ x % 256
+  pub second-setImage : v * 2 + 1 < length t → getD (setImage t v x) (v * 2 + 1) 0 ≡ x % 256
   unfolding setImage
   second-setImage h = second-at t v (getD t (v * 2) 0 % 4 + 4 + x / 256 * 8) (x % 256) h
 
   -- both bytes of another variable
-  first-setImage-other : (w : ℕ) → w ≢ v → getD (setImage t v x) (w * 2) 0 ≡ getD t (w * 2) 0
+  pub first-setImage-other : (w : ℕ) → w ≢ v → getD (setImage t v x) (w * 2) 0 ≡ getD t (w * 2) 0
   unfolding setImage
   first-setImage-other w n = first-of-other t v (getD t (v * 2) 0 % 4 + 4 + x / 256 * 8) (x % 256) w n
 
-  second-setImage-other : (w : ℕ) → w ≢ v → getD (setImage t v x) (w * 2 + 1) 0 ≡ getD t (w * 2 + 1) 0
+  pub second-setImage-other : (w : ℕ) → w ≢ v → getD (setImage t v x) (w * 2 + 1) 0 ≡ getD t (w * 2 + 1) 0
   unfolding setImage
   second-setImage-other w n = second-of-other t v (getD t (v * 2) 0 % 4 + 4 + x / 256 * 8) (x % 256) w n
 
@@ -193,11 +193,11 @@ module _ (t : List ℕ) (v : ℕ) where
   unfolding clearImage
   second-clearImage h = second-at t v (getD t (v * 2) 0 % 4) (0) h
 
-  first-clearImage-other : (w : ℕ) → w ≢ v → getD (clearImage t v) (w * 2) 0 ≡ getD t (w * 2) 0
+  pub first-clearImage-other : (w : ℕ) → w ≢ v → getD (clearImage t v) (w * 2) 0 ≡ getD t (w * 2) 0
   unfolding clearImage
   first-clearImage-other w n = first-of-other t v (getD t (v * 2) 0 % 4) (0) w n
 
-  second-clearImage-other : (w : ℕ) → w ≢ v → getD (clearImage t v) (w * 2 + 1) 0 ≡ getD t (w * 2 + 1) 0
+  pub second-clearImage-other : (w : ℕ) → w ≢ v → getD (clearImage t v) (w * 2 + 1) 0 ≡ getD t (w * 2 + 1) 0
   unfolding clearImage
   second-clearImage-other w n = second-of-other t v (getD t (v * 2) 0 % 4) (0) w n
 
