@@ -10,15 +10,9 @@ use native.Mathlib.Decide.{ℕ-discrete, decLt}
 use lib.Dec.{eqb}
 use lib.ListN.{length, getD, replicate, length-replicate, getD-replicate, List·getD-eq-default}
 use lib.Seq.{getD-set-other, ext-getD}
-use Rattle.table.specs.Table.{valueAt, mappedAt, imageAt, imageOf, setValue, values, clearTo, clearValues, Zero}
+use Rattle.table.specs.Table.{Kept, valueAt, mappedAt, imageAt, imageOf, setValue, values, clearTo, clearValues, Zero}
 use Rattle.table.proofs.Laws.{image-by, image-of-by, image-unmapped, length-setValue, first-setValue, second-setValue}
 use Rattle.table.proofs.Values.{values-at, values-are, clear-below, clear-beyond}
-
--- u is t but for values
-pub record Kept (t u : List ℕ) : Type 0 where
-  pub long : length u ≡ length t
-  pub first : (v : ℕ) → getD u (v * 2) 0 / 4 ≡ getD t (v * 2) 0 / 4
-  pub second : (v : ℕ) → getD u (v * 2 + 1) 0 ≡ getD t (v * 2 + 1) 0
 
 pub kept-refl : (t : List ℕ) → Kept t t
 kept-refl t = record { long = refl; first = λ v. refl; second = λ v. refl }

@@ -56,3 +56,9 @@ clearValues vars t = clearTo (suc vars) t
 -- every byte is 0
 abbrev pub Zero : List ℕ → Type 0
 Zero t = (i : ℕ) → getD t i 0 ≡ 0
+
+-- u is t but for values
+pub record Kept (t u : List ℕ) : Type 0 where
+  pub long : length u ≡ length t
+  pub first : (v : ℕ) → getD u (v * 2) 0 / 4 ≡ getD t (v * 2) 0 / 4
+  pub second : (v : ℕ) → getD u (v * 2 + 1) 0 ≡ getD t (v * 2 + 1) 0
