@@ -337,6 +337,16 @@ formula-word-entered at = omega arith
 pub proof-word-entered : (at : ℕ) → proofWord at ≢ 0
 proof-word-entered at = omega arith
 
+-- a clause of the formula, or of the proof, entered as the paper's reading finds it
+module _ (why : Reason) (tag : ℕ) (allowed : ℕ → Bool) (f p : File) (at : ℕ) (e : Extent) (small : at < 1048576) (ws : List ℕ) (n : ℕ) (above : (j : ℕ) → n ≤ j → getD ws j 0 ≡ 0) (h : n < length ws) where
+  pub formula-entered : field why tag allowed f at ≡ ok e → live f p (set ws n (formulaWord at)) ≡ live f p ws ++ ((n, codes (payload f e)) ∷ [])
+  formula-entered q =
+      rw (← clause-of-formula why tag allowed f p at e small q) (live-entered f p ws n (formulaWord at) above h (formula-word-entered at))
+
+  pub proof-entered : field why tag allowed p at ≡ ok e → live f p (set ws n (proofWord at)) ≡ live f p ws ++ ((n, codes (payload p e)) ∷ [])
+  proof-entered q =
+      rw (← clause-of-proof why tag allowed f p at e small q) (live-entered f p ws n (proofWord at) above h (proof-word-entered at))
+
 -- a clause is empty where its payload has fewer than two bytes
 pub codes-none : (b : List ℕ) → length b < 2 → codes b ≡ []
 unfolding codes
