@@ -1,12 +1,10 @@
 -- What reading a field at a place finds, and when that is the field that must stand there.
 use Prim.Native.Nat.{ℕ, _+_}
 use mathlib.Core.Bool.{Bool, true, false}
-use lib.Dec.{eqb, leb}
+use lib.Dec.{leb}
 use lib.ListN.{length, getD}
-use Rattle.paper.specs.declared.Reason.{Reason}
 use Rattle.paper.specs.declared.Extent.{Extent}
-use Rattle.paper.specs.Files.{File, Read, ok, bad, two, past, field, four, even, fours}
-use Rattle.field.specs.declared.Cursor.{Cursor}
+use Rattle.paper.specs.Files.{File, Read, ok, bad, two, past, four, even, fours}
 use Rattle.field.specs.declared.FieldRead.{FieldRead}
 use Rattle.field.specs.declared.FieldRead.the-variants.{Whole, Cut, Short, End}
 use Rattle.field.specs.declared.Length.{Length}

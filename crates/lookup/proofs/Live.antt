@@ -1,15 +1,15 @@
 -- The live clauses as the table holds them: over the numbers in turn, when a clause is entered, and when one is removed.
 -- Assumes nothing.
-use Prim.Native.Nat.{ℕ, zero, suc, _+_, _-_, _/_, _%_, _≤_, _<_}
-use mathlib.Core.Path.{_≡_, refl, sym, ap, _∙_, subst}
+use Prim.Native.Nat.{ℕ, zero, suc, _+_, _/_, _%_, _≤_, _<_}
+use mathlib.Core.Path.{_≡_, refl, sym, ap, _∙_}
 use mathlib.Core.Logic.{_≢_}
-use mathlib.Core.Bool.{Bool, true, false, not, _||_, true≢false, false≢true}
+use mathlib.Core.Bool.{Bool, true, false, not, true≢false, false≢true}
 use mathlib.Core.List.{List, [], _∷_, _++_, List·Memᴰ·head, List·Memᴰ·tail}
 use native.Mathlib.Omega.{arith}
 use native.Mathlib.Numerals.{add-one}
 use lib.Dec.{eqb}
 use lib.ListN.{length, getD, set, drop, drop-of-length-le}
-use lib.Seq.{drop-cons, drop-length, getD-set-other}
+use lib.Seq.{drop-cons, getD-set-other}
 use Rattle.paper.specs.declared.Reason.{Reason}
 use Rattle.paper.specs.declared.Extent.{Extent}
 use Rattle.paper.specs.Atoms.{Clause, Formula, Live}
@@ -17,6 +17,7 @@ use Rattle.paper.specs.Files.{File, ok, two, payload, field, codes}
 use Rattle.paper.specs.Conditions.{is-in, without}
 use Rattle.paper.specs.Refusals.{is-live}
 use Rattle.paper.proofs.Lists.{eqb-yes, eqb-no, eqb-same, eqb-other, leb-within}
+use Rattle.paper.proofs.Valid.{Rising}
 use Rattle.field.specs.Field.{extentAt}
 use Rattle.field.proofs.Laws.{Stands, stands}
 use Rattle.lookup.specs.Clause.{payloadAt, clauseBytes, formulaWord, proofWord}
@@ -37,6 +38,10 @@ module _ (f p : File) (ws : List ℕ) (k : ℕ) where
   pub live-end : length ws ≤ k → live-from f p k (drop k ws) ≡ []
   unfolding live-from
   live-end h = rw (drop-of-length-le ws h)
+
+pub live-start : (f p : File) (ws : List ℕ) → live-from f p 0 (drop 0 ws) ≡ live f p ws
+unfolding live
+live-start f p ws = refl
 
 -- one word in front, not live or live
 module _ (f p : File) (k w : ℕ) (ws : List ℕ) where
@@ -283,6 +288,24 @@ live-out f p ws {n} {D} q =
     let r = out-from f p 0 n D ws q in
     let e : n ≡ r .0 = (r .1) ∙ omega arith in
     rw e (r .2)
+
+-- the numbers rise
+rising-from : (f p : File) (k : ℕ) (ws : List ℕ) → Rising (live-from f p k ws)
+unfolding live-from
+rising-from f p k [] = tt
+rising-from f p k (x ∷ ws) = go (rising-from f p (suc k) ws) (eqb x 0)
+  where
+    above : (m : ℕ) (E : Clause) → Live (live-from f p (suc k) ws) m E → k < m
+    above m E q = let r = out-from f p (suc k) m E ws q in let e : m ≡ suc k + r .0 = r .1 in omega arith
+
+    go : Rising (live-from f p (suc k) ws) → (b : Bool)
+        → Rising (elim b [ true ↦ live-from f p (suc k) ws | false ↦ (k, codes (clauseBytes f p x)) ∷ live-from f p (suc k) ws ])
+    go below true = below
+    go below false = (above, below)
+
+pub live-rising : (f p : File) (ws : List ℕ) → Rising (live f p ws)
+unfolding live
+live-rising f p ws = rising-from f p 0 ws
 
 in-from : (f p : File) (k n : ℕ) (ws : List ℕ) → n < length ws → getD ws n 0 ≢ 0 → Live (live-from f p k ws) (k + n) (codes (clauseBytes f p (getD ws n 0)))
 in-from f p k n [] h ne = absurd (omega arith)
