@@ -1,3 +1,4 @@
 pub mod Pairs
 pub mod Unloading
 pub mod Loading
+pub mod Images

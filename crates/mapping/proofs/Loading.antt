@@ -1,10 +1,10 @@
 -- What the loop that writes the mappings keeps from turn to turn, and what it has found where it ends.
 -- Assumes nothing.
-use Prim.Native.Nat.{ℕ, zero, suc, _+_, _*_, _/_, _%_, _<_, _≤_}
+use Prim.Native.Nat.{ℕ, _+_, _*_, _/_, _%_, _<_, _≤_}
 use mathlib.Core.Path.{_≡_, refl, sym, ap, subst, _∙_}
 use mathlib.Core.Logic.{_≢_}
-use mathlib.Core.Bool.{Bool, true, false, _||_}
-use mathlib.Core.List.{List, [], _∷_, map, List·Memᴰ·head, List·Memᴰ·tail}
+use mathlib.Core.Bool.{true, false, _||_}
+use mathlib.Core.List.{List, [], _∷_}
 use native.Mathlib.Omega.{arith}
 use native.Mathlib.Decide.{ℕ-discrete}
 use borrow.Author.Tests.{eq-eqb, ne-eqb}
@@ -12,7 +12,7 @@ use lib.Dec.{eqb}
 use lib.ListN.{length, getD, drop}
 use Rattle.paper.specs.declared.Reason.{Reason}
 use Rattle.paper.specs.Atoms.{_∈_, Witness}
-use Rattle.paper.specs.Files.{Read, ok, bad, two, codes, mappings}
+use Rattle.paper.specs.Files.{ok, bad, two, codes, mappings}
 use Rattle.paper.specs.Conditions.{is-in}
 use Rattle.paper.specs.Refusals.{no-two}
 use Rattle.table.specs.Table.{valueAt, mappedAt, setImage}
@@ -64,7 +64,7 @@ loading-start w t bare =
     }
 
 -- a variable that is listed in s may be mapped
-apart-set : (s : Witness) (t u : List ℕ) (v a : ℕ) → v ∈ variables s → Apart s t u → Apart s t (setImage u v a)
+pub apart-set : (s : Witness) (t u : List ℕ) (v a : ℕ) → v ∈ variables s → Apart s t u → Apart s t (setImage u v a)
 apart-set s t u v a m k =
     record {
       long = length-setImage u v a ∙ k .long;

@@ -1,15 +1,15 @@
 -- What the loop that clears the images keeps from turn to turn; and that clearing them brings back a table with none.
 -- Assumes nothing.
-use Prim.Native.Nat.{ℕ, zero, suc, _+_, _*_, _/_, _%_, _<_, _≤_}
+use Prim.Native.Nat.{ℕ, _+_, _*_, _/_, _<_, _≤_}
 use mathlib.Core.Path.{_≡_, refl, sym, ap, _∙_}
 use mathlib.Core.Logic.{_≢_}
-use mathlib.Core.List.{List, [], _∷_, map, List·Memᴰ·head, List·Memᴰ·tail}
+use mathlib.Core.List.{List, [], _∷_, List·Memᴰ·head, List·Memᴰ·tail}
 use native.Mathlib.Omega.{arith}
 use native.Mathlib.Decide.{ℕ-discrete}
 use lib.ListN.{length, getD, drop}
 use Rattle.paper.specs.Atoms.{_∈_, Witness}
 use Rattle.paper.specs.Files.{two, codes, mappings}
-use Rattle.table.specs.Table.{valueAt, setImage, clearImage}
+use Rattle.table.specs.Table.{valueAt, clearImage}
 use Rattle.table.proofs.Laws.{length-clearImage, first-clearImage, second-clearImage, first-clearImage-other, second-clearImage-other, value-clearImage}
 use Rattle.table.proofs.Kept.{Kept}
 use Rattle.mapping.specs.Mapping.{variables, Fitting, Bare, unloaded}

@@ -2,7 +2,7 @@
 use borrow.Author.Needs.{needs}
 use Rattle.table.proofs.Laws.{image-mapped, image-unmapped}
 use Prim.Native.Nat.{_*_}
-use mathlib.Core.Path.{_≡_, refl, sym, ap, _∙_}
+use mathlib.Core.Path.{sym, _∙_}
 use native.Mathlib.Omega.{arith}
 use Rattle.table.proofs.image.Statement.{statement}
 use Rattle.table.proofs.image.Tie as tie
