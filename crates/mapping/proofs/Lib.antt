@@ -1,3 +1,4 @@
+-- What is proved of a witness in the table.
 pub mod Pairs
 pub mod Unloading
 pub mod Loading

@@ -1,4 +1,4 @@
--- `mapping::load_witness` meets its contract. Assumes nothing.
+-- `mapping::load_witness` meets its contract: the variables passed are those that the table has mapped, each listed once. Assumes nothing.
 use Prim.Native.Nat.{ℕ, _≤_, _<_, _-_, _+_, _%_}
 use mathlib.Core.Path.{_≡_, refl, sym, ap, ap₂, subst, _∙_}
 use mathlib.Core.List.{List}

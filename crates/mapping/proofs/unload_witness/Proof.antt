@@ -1,4 +1,4 @@
--- `mapping::unload_witness` meets its contract. Assumes nothing.
+-- `mapping::unload_witness` meets its contract: what is left to clear, from the table now, gives what all gives from the table at entry. Assumes nothing.
 use Prim.Native.Nat.{ℕ, _≤_, _<_, _-_, _+_, _%_}
 use mathlib.Core.Path.{_≡_, refl, sym, ap, subst, _∙_}
 use native.Mathlib.Omega.{arith}

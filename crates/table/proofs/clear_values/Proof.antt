@@ -1,4 +1,4 @@
--- `table::clear_values` meets its contract. Assumes nothing.
+-- `table::clear_values` meets its contract: before variable v, those below v are unset. Assumes nothing.
 use Prim.Native.Nat.{suc, _≤_, _-_}
 use mathlib.Core.Path.{_≡_, refl, ap, _∙_}
 use native.Mathlib.Omega.{arith}
