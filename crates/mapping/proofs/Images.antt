@@ -17,10 +17,10 @@ use Rattle.paper.specs.Files.{Read, ok, bad, _>>_, need}
 use Rattle.paper.specs.Conditions.{look, image, is-in}
 use Rattle.paper.specs.Refusals.{no-two, between, check-mappings}
 use Rattle.paper.proofs.Lists.{Distinct, and-yes, or-no, leb-yes, eqb-no}
-use Rattle.table.specs.Table.{valueAt, mappedAt, imageAt, imageOf, setImage, values, Zero}
+use Rattle.table.specs.Table.{Kept, valueAt, mappedAt, imageAt, imageOf, setImage, values, Zero}
 use Rattle.table.proofs.Laws.{length-setImage, image-unmapped, image-same, image-other, mapped-same, mapped-other, value-setImage}
 use Rattle.table.proofs.Values.{values-by}
-use Rattle.table.proofs.Kept.{Kept, kept-refl, kept-image-of, same-table}
+use Rattle.table.proofs.Kept.{kept-refl, kept-image-of, same-table}
 use Rattle.mapping.specs.declared.Loaded.the-variants.{Once}
 use Rattle.mapping.specs.Mapping.{variables, Fitting, Bare, loaded, unloaded, saidBy}
 use Rattle.mapping.proofs.Unloading.{Apart, unload-back, unload-value}

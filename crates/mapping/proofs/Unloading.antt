@@ -9,9 +9,8 @@ use native.Mathlib.Decide.{ℕ-discrete}
 use lib.ListN.{length, getD, drop}
 use Rattle.paper.specs.Atoms.{_∈_, Witness}
 use Rattle.paper.specs.Files.{two, codes, mappings}
-use Rattle.table.specs.Table.{valueAt, clearImage}
+use Rattle.table.specs.Table.{Kept, clearImage, valueAt}
 use Rattle.table.proofs.Laws.{length-clearImage, first-clearImage, second-clearImage, first-clearImage-other, second-clearImage-other, value-clearImage}
-use Rattle.table.proofs.Kept.{Kept}
 use Rattle.mapping.specs.Mapping.{variables, Fitting, Bare, unloaded}
 use Rattle.mapping.proofs.Pairs.{next, none, Part, part-start, part-next}
 
