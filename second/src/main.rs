@@ -1,0 +1,142 @@
+//! A second checker, written from the paper alone: obvious rather than fast, to compare another checker with.
+
+mod cases;
+mod damage;
+mod faults;
+mod files;
+mod judge;
+mod large;
+mod pack;
+mod pigeon;
+mod random;
+mod rules;
+mod seeds;
+mod stowage;
+mod systematic;
+#[cfg(test)]
+mod tests;
+mod writer;
+
+use judge::{judge, BYTES, WORDS};
+use std::path::Path;
+use std::process::ExitCode;
+
+const USAGE: &str = "second answer FORMULA PROOF
+second cases
+second pack systematic OUTDIR
+second pack large OUTDIR
+second pack random SEED COUNT OUTDIR
+second stowages SEED COUNT
+second counts FILE.lines...
+second pigeon N FORMULA PROOF";
+
+fn main() -> ExitCode {
+    let words: Vec<String> = std::env::args().skip(1).collect();
+    let words: Vec<&str> = words.iter().map(String::as_str).collect();
+    let done = match words[..] {
+        ["answer", formula, proof] => answer(formula, proof),
+        ["cases"] => hand_cases(),
+        ["pack", "systematic", folder] => pack(folder, "systematic", &systematic::cases()),
+        ["pack", "large", folder] => pack(folder, "large", &large::cases()),
+        ["pack", "random", seed, count, folder] => {
+            numbers(seed, count).and_then(|(seed, count)| {
+                let name = format!("random-{seed}");
+                pack(folder, &name, &random::cases(seed, count))
+            })
+        }
+        ["stowages", seed, count] => {
+            numbers(seed, count).and_then(|(seed, count)| stowages(seed, count))
+        }
+        ["counts", ref files @ ..] if !files.is_empty() => counts(files),
+        ["pigeon", n, formula, proof] => pigeons(n, formula, proof),
+        _ => Err(USAGE.to_string()),
+    };
+    match done {
+        Ok(()) => ExitCode::SUCCESS,
+        Err(message) => {
+            eprintln!("{message}");
+            ExitCode::FAILURE
+        }
+    }
+}
+
+type Done = Result<(), String>;
+
+fn numbers(seed: &str, count: &str) -> Result<(u64, usize), String> {
+    let seed = seed.parse().map_err(|_| USAGE.to_string())?;
+    let count = count.parse().map_err(|_| USAGE.to_string())?;
+    Ok((seed, count))
+}
+
+fn answer(formula: &str, proof: &str) -> Done {
+    // "A file that is larger or can't be read [...] gives the line `unread` alone", here with the library's limits.
+    match (std::fs::read(formula), std::fs::read(proof)) {
+        (Ok(formula), Ok(proof)) => println!("{}", judge(&formula, &proof, WORDS, BYTES).line()),
+        _ => println!("unread"),
+    }
+    Ok(())
+}
+
+fn hand_cases() -> Done {
+    let cases = cases::cases();
+    let mut right = 0;
+    for case in &cases {
+        let line = judge(&case.formula, &case.proof, WORDS, BYTES).line();
+        if line == case.line {
+            right += 1;
+        } else {
+            println!("{}: {line}, paper {}", case.name, case.line);
+        }
+    }
+    println!("cases: {right} of {}", cases.len());
+    if right == cases.len() {
+        Ok(())
+    } else {
+        Err("a case differs from the paper".to_string())
+    }
+}
+
+fn pack(folder: &str, name: &str, cases: &[pack::Case]) -> Done {
+    pack::write(Path::new(folder), name, cases).map_err(|error| error.to_string())?;
+    println!("{name}: {} cases", cases.len());
+    Ok(())
+}
+
+fn stowages(seed: u64, count: usize) -> Done {
+    let mut random = random::Random(seed);
+    let mut tally = stowage::Tally::default();
+    for index in 0..count {
+        let (formula, proof) = random::valid(&mut random);
+        stowage::check(&formula, &proof, &mut tally).map_err(|message| {
+            format!("case {index}: {message}\nformula {formula:02x?}\nproof {proof:02x?}")
+        })?;
+    }
+    println!("cases {} refuted {}", tally.cases, tally.refuted);
+    println!("steps taken {:?}", tally.steps);
+    println!("steps that moved a stowage {:?}", tally.moving);
+    println!("stowages carried {} moved {}", tally.carried, tally.moved);
+    Ok(())
+}
+
+fn counts(files: &[&str]) -> Done {
+    let mut lines = String::new();
+    for file in files {
+        lines += &std::fs::read_to_string(file).map_err(|error| error.to_string())?;
+    }
+    let counts = pack::counts(&lines);
+    for (key, count) in &counts {
+        println!("{key}: {count}");
+    }
+    match pack::absent(&counts)[..] {
+        [] => Ok(()),
+        ref absent => Err(format!("reasons that never come up: {absent:?}")),
+    }
+}
+
+fn pigeons(n: &str, formula: &str, proof: &str) -> Done {
+    // Above 32 the numbers outgrow what a checker of this format takes.
+    let n = n.parse().ok().filter(|n| (1..=32).contains(n));
+    let (formula_bytes, proof_bytes) = pigeon::files(n.ok_or("N is 1 to 32")?);
+    std::fs::write(formula, formula_bytes).map_err(|error| error.to_string())?;
+    std::fs::write(proof, proof_bytes).map_err(|error| error.to_string())
+}

@@ -1,0 +1,70 @@
+//! The pack: cases one after another, numbers in four bytes, high byte first, and beside it the expected lines.
+
+use crate::judge::{judge, Answer, BYTES, WORDS};
+use std::collections::BTreeMap;
+use std::io::{BufWriter, Write};
+use std::path::Path;
+
+#[derive(Clone, Debug, PartialEq, Eq, PartialOrd, Ord)]
+pub struct Case {
+    pub words: u32,
+    pub bytes: u32,
+    pub formula: Vec<u8>,
+    pub proof: Vec<u8>,
+}
+
+impl Case {
+    /// A case with exactly the work memory that the paper asks for.
+    pub fn new(formula: Vec<u8>, proof: Vec<u8>) -> Case {
+        Case {
+            words: WORDS,
+            bytes: BYTES,
+            formula,
+            proof,
+        }
+    }
+
+    pub fn answer(&self) -> Answer {
+        judge(&self.formula, &self.proof, self.words, self.bytes)
+    }
+}
+
+/// Writes NAME.pack and NAME.lines into the folder.
+pub fn write(folder: &Path, name: &str, cases: &[Case]) -> std::io::Result<()> {
+    std::fs::create_dir_all(folder)?;
+    let create = |end: &str| std::fs::File::create(folder.join(format!("{name}.{end}")));
+    let mut pack = BufWriter::new(create("pack")?);
+    let mut lines = BufWriter::new(create("lines")?);
+    for case in cases {
+        let lengths = [case.formula.len() as u32, case.proof.len() as u32];
+        for number in [case.words, case.bytes, lengths[0], lengths[1]] {
+            pack.write_all(&number.to_be_bytes())?;
+        }
+        pack.write_all(&case.formula)?;
+        pack.write_all(&case.proof)?;
+        writeln!(lines, "{}", case.answer().line())?;
+    }
+    pack.flush()?;
+    lines.flush()
+}
+
+/// How often each verdict and each reason comes up: keys "held", "refuted", "refused 1" and so on.
+pub fn counts(lines: &str) -> BTreeMap<String, usize> {
+    let mut counts = BTreeMap::new();
+    for line in lines.lines() {
+        let fields: Vec<&str> = line.split(' ').collect();
+        let key = match fields[..] {
+            ["refused", reason, ..] => format!("refused {reason:>2}"),
+            [verdict, ..] => verdict.to_string(),
+            [] => continue,
+        };
+        *counts.entry(key).or_insert(0) += 1;
+    }
+    counts
+}
+
+/// The reasons from 1 to 15 that never come up; 16 can't, since 5, 6, 9 and 10 come before it.
+pub fn absent(counts: &BTreeMap<String, usize>) -> Vec<u8> {
+    let came = |reason: &u8| counts.contains_key(&format!("refused {reason:>2}"));
+    (1..=15).filter(|reason| !came(reason)).collect()
+}
