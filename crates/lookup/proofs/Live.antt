@@ -6,9 +6,10 @@ use mathlib.Core.Logic.{_≢_}
 use mathlib.Core.Bool.{Bool, true, false, not, true≢false, false≢true}
 use mathlib.Core.List.{List, [], _∷_, _++_, List·Memᴰ·head, List·Memᴰ·tail}
 use native.Mathlib.Omega.{arith}
+use native.Mathlib.Decide.{ℕ-discrete}
 use native.Mathlib.Numerals.{add-one}
 use lib.Dec.{eqb}
-use lib.ListN.{length, getD, set, drop, drop-of-length-le}
+use lib.ListN.{length, getD, set, take, drop, drop-of-length-le}
 use lib.Seq.{drop-cons, getD-set-other}
 use Rattle.paper.specs.declared.Reason.{Reason}
 use Rattle.paper.specs.declared.Extent.{Extent}
@@ -62,6 +63,22 @@ none-from f p k (w ∷ ws) z = head-skip f p k w ws (z 0) ∙ none-from f p (suc
 pub live-none : (f p : File) (ws : List ℕ) → ((j : ℕ) → getD ws j 0 ≡ 0) → live f p ws ≡ []
 unfolding live
 live-none f p ws z = none-from f p 0 ws z
+
+-- the numbers in use are enough: from n on no word is entered
+live-from-used : (f p : File) (k n : ℕ) (ws : List ℕ) → ((j : ℕ) → n ≤ j → getD ws j 0 ≡ 0) → live-from f p k (take n ws) ≡ live-from f p k ws
+unfolding live-from
+live-from-used f p k zero ws above = sym (none-from f p k ws (λ j. above j (omega arith)))
+live-from-used f p k (suc n) [] above = refl
+live-from-used f p k (suc n) (w ∷ ws) above = go (live-from-used f p (suc k) n ws (λ j h. above (suc j) (omega arith))) (ℕ-discrete w 0)
+  where
+    go : live-from f p (suc k) (take n ws) ≡ live-from f p (suc k) ws → Dec (w ≡ 0) → live-from f p k (w ∷ take n ws) ≡ live-from f p k (w ∷ ws)
+    go e (yes z) = head-skip f p k w (take n ws) z ∙ e ∙ sym (head-skip f p k w ws z)
+    go e (no ne) =
+        head-live f p k w (take n ws) ne ∙ ap (λ (F : Formula). (k, codes (clauseBytes f p w)) ∷ F) e ∙ sym (head-live f p k w ws ne)
+
+pub live-used : (f p : File) (n : ℕ) (ws : List ℕ) → ((j : ℕ) → n ≤ j → getD ws j 0 ≡ 0) → live f p (take n ws) ≡ live f p ws
+unfolding live
+live-used f p n ws above = live-from-used f p 0 n ws above
 
 -- a clause entered at a number at and above which every word is 0 comes last
 entered-from : (f p : File) (k n w : ℕ) (ws : List ℕ) → n < length ws → ((j : ℕ) → n ≤ j → getD ws j 0 ≡ 0) → w ≢ 0

@@ -1,0 +1,2 @@
+-- What the code says of a step.
+pub mod Step
