@@ -8,4 +8,5 @@ pub mod Reading
 pub mod Judging
 pub mod Answering
 pub mod Demand3
+pub mod Reasons
 pub mod Cases

@@ -1,0 +1,181 @@
+-- Which reasons each part of the answer can give: those that the paper's order names there, and no others.
+-- Assumes nothing.
+use Prim.Native.Nat.{ℕ, zero, suc, _+_, _*_, _/_, _≤_, _<_}
+use mathlib.Core.Path.{_≡_, refl, sym, ap, _∙_, subst}
+use mathlib.Core.Logic.{_≢_, _⊎_, inl, inr}
+use mathlib.Core.Bool.{Bool, true, false, _&&_, _||_}
+use mathlib.Core.List.{List, [], _∷_, map}
+use native.Mathlib.Omega.{arith}
+use lib.Dec.{eqb, leb, ltb}
+use lib.ListN.{length, getD}
+use Rattle.paper.specs.declared.Reason.{Reason}
+use Rattle.paper.specs.declared.Reason.the-variants.{WorkShort, FileLong, FormulaField, OverLimit, FormulaCode, FormulaTwice, FormulaEnd, ProofField, ProofCode, ProofTwice, NumberNotLive, NumbersUsedUp, NotRup, NotTrivialised, NotPassing, ClauseLong}
+use Rattle.paper.specs.declared.Verdict.{Verdict}
+use Rattle.paper.specs.declared.Verdict.the-variants.{Refuted, Held, Refused}
+use Rattle.paper.specs.Atoms.{Clause, Formula, Witness}
+use Rattle.paper.specs.Files.{File, Read, ok, bad, _>>=_, _>>_, need, two, payload, past, field, four, even, fours, codes, mappings, Step}
+use Rattle.paper.specs.Conditions.{is-in}
+use Rattle.paper.specs.Refusals.{each, no-two, between, check-clause, read-clauses, read-formula, field-if, read-fields, check-mappings, is-live, check-numbers, read-step}
+use Rattle.paper.specs.Answers.{numberOf, numbersOf, refused, stops, Judged, not-rup, not-trivialised, sr-lowest, wsr-lowest, wsr-new, Steps, refuted, held, unread, judged, goes-on, Answer, work-short, file-long, formula-bad, proof-judged}
+
+-- what holds of the reason, where there is one
+abbrev Else : {A : Type 0} → (Reason → Type 0) → Read A → Type 0
+Else P (ok a) = Unit {0}
+Else P (bad r p) = P r
+
+module _ (P : Reason → Type 0) where
+  else-bind : {A B : Type 0} (m : Read A) (f : A → Read B) → Else P m → ((a : A) → Else P (f a)) → Else P (m >>= f)
+  unfolding _>>=_
+  else-bind (ok a) f p k = k a
+  else-bind (bad r q) f p k = p
+
+  else-seq : {A B : Type 0} (m : Read A) (n : Read B) → Else P m → Else P n → Else P (m >> n)
+  unfolding _>>_
+  else-seq (ok a) n p k = k
+  else-seq (bad r q) n p k = p
+
+  else-need : (b : Bool) (r : Reason) (p : ℕ) → P r → Else P (need b r p)
+  unfolding need
+  else-need true r p h = tt
+  else-need false r p h = h
+
+  else-field : (r : Reason) (tag : ℕ) (allowed : ℕ → Bool) (f : File) (at : ℕ) → P r → Else P (field r tag allowed f at)
+  unfolding field
+  else-field r tag allowed f at h =
+      else-seq _ _ (else-need (leb (at + 3) (length f)) r at h)
+      (else-seq _ _ (else-need (eqb (getD f at 0) tag) r at h)
+      (else-seq _ _ (else-need (allowed (two f (at + 1))) r at h)
+      (else-seq _ _ (else-need (leb (at + 3 + two f (at + 1)) (length f)) r at h) tt)))
+
+  else-each : (r : Reason) (good : ℕ → Bool) (u p : ℕ) (C : List ℕ) → P r → Else P (each r good u p C)
+  unfolding each
+  else-each r good u p [] h = tt
+  else-each r good u p (x ∷ C) h = go (else-each r good u (p + u) C h) (good x)
+    where
+      go : Else P (each r good u (p + u) C) → (b : Bool) → Else {A = Unit {0}} P (elim b [ true ↦ each r good u (p + u) C | false ↦ bad r p ])
+      go more true = more
+      go more false = h
+
+  else-no-two : (r : Reason) (seen : List ℕ) (u p : ℕ) (C : List ℕ) → P r → Else P (no-two r seen u p C)
+  unfolding no-two
+  else-no-two r seen u p [] h = tt
+  else-no-two r seen u p (x ∷ C) h = go (else-no-two r (x ∷ seen) u (p + u) C h) (is-in x seen)
+    where
+      go : Else P (no-two r (x ∷ seen) u (p + u) C) → (b : Bool)
+          → Else {A = Unit {0}} P (elim b [ true ↦ bad r p | false ↦ no-two r (x ∷ seen) u (p + u) C ])
+      go more true = h
+      go more false = more
+
+  else-clause : (range twice : Reason) (vars tag : ℕ) (C : Clause) → P range → P twice → P ClauseLong → Else P (check-clause range twice vars tag C)
+  unfolding check-clause
+  else-clause range twice vars tag C a b c =
+      else-seq _ _ (else-each range (between 2 (2 * vars + 1)) 2 (tag + 3) C a)
+      (else-seq _ _ (else-no-two twice [] 2 (tag + 3) (map (λ l. l / 2) C) b) (else-need (leb (length C) vars) ClauseLong tag c))
+
+-- "In the formula: HEAD 3, 4; for each clause 7 (bytes at an end), 3, 5, 6, 16; after clause m, 7."
+abbrev pub OfFormula : Reason → Type 0
+OfFormula r = ((3 ≤ numberOf r) × (numberOf r ≤ 7)) ⊎ (numberOf r ≡ 16)
+
+-- a number of the paper's order, as a fact of arithmetic
+of-formula : (n : ℕ) → 3 ≤ n → n ≤ 7 → ((3 ≤ n) × (n ≤ 7)) ⊎ (n ≡ 16)
+of-formula n a b = inl (a, b)
+
+else-clauses : (f : File) (vars m n at : ℕ) → Else OfFormula (read-clauses f vars m n at)
+unfolding read-clauses
+else-clauses f vars zero n at = tt
+else-clauses f vars (suc m) n at =
+    else-seq OfFormula _ _ (else-need OfFormula (ltb at (length f)) FormulaEnd at (of-formula 7 (omega arith) (omega arith)))
+    (else-bind OfFormula _ _ (else-field OfFormula FormulaField 0x02 even f at (of-formula 3 (omega arith) (omega arith))) λ e.
+    else-seq OfFormula _ _
+    (else-clause OfFormula FormulaCode FormulaTwice vars at (codes (payload f e)) (of-formula 5 (omega arith) (omega arith)) (of-formula 6 (omega arith) (omega arith)) (inr refl))
+    (else-bind OfFormula _ _ (else-clauses f vars m (suc n) (past e)) λ more. tt))
+
+else-formula : (f : File) → Else OfFormula (read-formula f)
+unfolding read-formula
+else-formula f =
+    else-bind OfFormula _ _ (else-field OfFormula FormulaField 0x01 four f 0 (of-formula 3 (omega arith) (omega arith))) λ e.
+    else-seq OfFormula _ _ (else-need OfFormula (leb (two f 3) 4095 && leb (two f 5) 16383) OverLimit 0 (of-formula 4 (omega arith) (omega arith)))
+    (else-bind OfFormula _ _ (else-clauses f (two f 3) (two f 5) 1 (past e)) λ F.
+    else-seq OfFormula _ _ (else-need OfFormula (leb (length f) (F .1)) FormulaEnd (F .1) (of-formula 7 (omega arith) (omega arith))) tt)
+
+pub formula-reasons : (f : File) (r : Reason) (p : ℕ) → read-formula f ≡ bad r p → OfFormula r
+formula-reasons f r p e = subst (Else OfFormula) e (else-formula f)
+
+-- "In a step: 8 over all its fields; the clause 9, 10, 16; the witness 9, 10; the numbers 11; then 12; then 13, or 14 before 15."
+abbrev pub OfStep : Reason → Type 0
+OfStep r = (8 ≤ numberOf r) × (numberOf r ≤ 16)
+
+else-field-if : (b : Bool) (tag : ℕ) (allowed : ℕ → Bool) (f : File) (at : ℕ) → Else OfStep (field-if b tag allowed f at)
+unfolding field-if
+else-field-if true tag allowed f at = else-field OfStep ProofField tag allowed f at (omega arith, omega arith)
+else-field-if false tag allowed f at = tt
+
+else-fields : (f : File) (at : ℕ) → Else OfStep (read-fields f at)
+unfolding read-fields
+else-fields f at =
+    else-seq OfStep _ _ (else-need OfStep (between 0x11 0x14 (getD f at 0)) ProofField at (omega arith, omega arith))
+    (else-bind OfStep _ _ (else-field OfStep ProofField (getD f at 0) even f at (omega arith, omega arith)) λ c.
+    else-bind OfStep _ _ (else-field-if (between 0x12 0x13 (getD f at 0)) 0x21 fours f (past c)) λ w.
+    else-bind OfStep _ _ (else-field-if (eqb (getD f at 0) 0x13) 0x22 even f (past w)) λ n. tt)
+
+else-mappings : (vars p : ℕ) (s : Witness) → Else OfStep (check-mappings vars p s)
+unfolding check-mappings
+else-mappings vars p [] = tt
+else-mappings vars p (m ∷ s) =
+    else-seq OfStep _ _ (else-need OfStep (between 1 vars (m .0)) ProofCode p (omega arith, omega arith))
+    (else-seq OfStep _ _ (else-need OfStep (leb (m .1) (2 * vars + 1)) ProofCode (p + 2) (omega arith, omega arith)) (else-mappings vars (p + 4) s))
+
+else-numbers : (F : Formula) (last p : ℕ) (ns : List ℕ) → Else OfStep (check-numbers F last p ns)
+unfolding check-numbers
+else-numbers F last p [] = tt
+else-numbers F last p (n ∷ ns) =
+    else-seq OfStep _ _ (else-need OfStep (is-live n F && ltb last n) NumberNotLive p (omega arith, omega arith)) (else-numbers F n (p + 2) ns)
+
+else-step : (f : File) (vars : ℕ) (F : Formula) (next at : ℕ) → Else OfStep (read-step f vars F next at)
+unfolding read-step
+else-step f vars F next at =
+    else-bind OfStep _ _ (else-fields f at) λ x.
+    else-seq OfStep _ _ (else-clause OfStep ProofCode ProofTwice vars at (codes (payload f (x .clause))) (omega arith, omega arith) (omega arith, omega arith) (omega arith, omega arith))
+    (else-seq OfStep _ _ (else-mappings vars (x .witness .start) (mappings (codes (payload f (x .witness)))))
+    (else-seq OfStep _ _
+    (else-no-two OfStep ProofTwice [] 4 (x .witness .start) (map (λ (m : ℕ × ℕ). m .0) (mappings (codes (payload f (x .witness))))) (omega arith, omega arith))
+    (else-seq OfStep _ _ (else-numbers F 0 (x .numbers .start) (codes (payload f (x .numbers))))
+    (else-seq OfStep _ _ (else-need OfStep (eqb (getD f at 0) 0x14 || ltb next 16384) NumbersUsedUp at (omega arith, omega arith)) tt))))
+
+judged-reasons : {F : Formula} {next : ℕ} {t : Step} {r : Reason} {p : ℕ} → Judged F next t (stops r p) → OfStep r
+judged-reasons (not-rup j) = (omega arith, omega arith)
+judged-reasons (not-trivialised j) = (omega arith, omega arith)
+judged-reasons (sr-lowest a j) = (omega arith, omega arith)
+judged-reasons (wsr-lowest j) = (omega arith, omega arith)
+judged-reasons (wsr-new a j) = (omega arith, omega arith)
+
+-- what a verdict names: nothing, or a reason of a step at a step that counts
+abbrev pub OfSteps : Verdict → Type 0
+OfSteps (Refuted n) = Unit {0}
+OfSteps (Held n) = Unit {0}
+OfSteps (Refused f) = OfStep (f .reason) × (1 ≤ f .step)
+
+pub steps-reasons : {proof : File} {vars : ℕ} {F : Formula} {next done at : ℕ} {v : Verdict} → Steps proof vars F next done at v → OfSteps v
+steps-reasons (refuted a b) = tt
+steps-reasons (held a b) = tt
+steps-reasons {proof} {vars} {F} {next} {done} {at} (unread a e) = (subst (Else OfStep) e (else-step proof vars F next at), omega arith)
+steps-reasons (judged a b j) = (judged-reasons j, omega arith)
+steps-reasons (goes-on a b j x) = steps-reasons x
+
+-- reason 1 is said of short work memory only: otherwise the work memory is zeroed
+pub not-reason-1 : {words bytes : ℕ} {formula proof : File} {v : Verdict} → 16384 ≤ words → 8192 ≤ bytes → Answer words bytes formula proof v
+    → numbersOf v .reason ≢ 1
+not-reason-1 w b (work-short (inl h)) e = absurd (omega arith)
+not-reason-1 w b (work-short (inr h)) e = absurd (omega arith)
+not-reason-1 w b (file-long x y z) e = absurd (omega arith)
+not-reason-1 {formula} w b (formula-bad {r} {p} i q) e = side (formula-reasons formula r p q)
+  where
+    side : OfFormula r → ⊥
+    side (inl h) = omega arith
+    side (inr h) = omega arith
+not-reason-1 {v} w b (proof-judged i q s) e = side v (steps-reasons s) e
+  where
+    side : (x : Verdict) → OfSteps x → numbersOf x .reason ≡ 1 → ⊥
+    side (Refuted n) h z = omega arith
+    side (Held n) h z = omega arith
+    side (Refused f) h z = omega arith
