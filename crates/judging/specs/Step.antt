@@ -11,6 +11,9 @@ use Rattle.paper.specs.Files.{File, ok, bad, Step}
 use Rattle.paper.specs.Conditions.{without, after}
 use Rattle.paper.specs.Refusals.{read-step}
 use Rattle.paper.specs.Answers.{Outcome, taken, stops, Judged}
+use Rattle.paper.proofs.Valid.{Kept}
+use Rattle.lookup.specs.Live.{live}
+use Rattle.table.specs.Table.{Zero}
 use Rattle.judging.specs.declared.Judgement.{Judgement}
 use Rattle.judging.specs.declared.Judgement.the-variants.{Passed}
 use Rattle.judging.specs.declared.StepAnswer.{StepAnswer}
@@ -28,3 +31,27 @@ pub data StepIs (proof : File) (vars : ℕ) (F : Formula) (next at : ℕ) : Step
       → StepIs proof vars F next at (StepAnswer.Stopped r p) F
   goes-on : {t : Step} {later m : ℕ} {G : Formula} → read-step proof vars F next at ≡ ok (t, later) → Judged F next t (taken G m)
       → StepIs proof vars F next at (Taken m later) G
+
+-- What is asked of a step's place, of the clause table and of the table of variables: nothing that a caller does not know from the step
+-- before.
+pub record Ready (f p : File) (at vars next : ℕ) (words t : List ℕ) : Type 0 where
+  pub place : at < length p
+  pub proof-short : length p ≤ 1048576
+  pub variables : vars ≤ 4095
+  pub first : 1 ≤ next
+  pub last : next ≤ 16384
+  pub words-long : length words ≡ 16384
+  pub unused : (k : ℕ) → next ≤ k → getD words k 0 ≡ 0
+  pub kept : Kept vars next (live f p words)
+  pub table-long : length t ≡ 8192
+  pub table-zero : Zero t
+
+-- the clause table after the answer: as it was, or with room for the next number
+abbrev pub After : StepAnswer → List ℕ → List ℕ → Type 0
+After (StepAnswer.Stopped r p) ws ws′ = ws′ ≡ ws
+After (Taken m later) ws ws′ = (length ws′ ≡ length ws) × (m ≤ 16384) × ((k : ℕ) → m ≤ k → getD ws′ k 0 ≡ 0)
+
+pub record Done (f p : File) (at vars next : ℕ) (words t : List ℕ) (r : StepAnswer) (words′ t′ : List ℕ) : Type 0 where
+  pub answer : StepIs p vars (live f p words) next at r (live f p words′)
+  pub after : After r words words′
+  pub table : t′ ≡ t

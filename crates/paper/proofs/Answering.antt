@@ -23,7 +23,7 @@ use Rattle.paper.proofs.Reading.{Then, Step-read, read-step-seen, Formu
 use Rattle.paper.proofs.Judging.{take-step, take-step-judged, judged-once, judged-kept}
 
 -- 1. Never two answers.
-same-read : {x : Read (Step × ℕ)} {t t′ : Step} {later later′ : ℕ} → x ≡ ok (t, later) → x ≡ ok (t′, later′) → (t ≡ t′) × (later ≡ later′)
+pub same-read : {x : Read (Step × ℕ)} {t t′ : Step} {later later′ : ℕ} → x ≡ ok (t, later) → x ≡ ok (t′, later′) → (t ≡ t′) × (later ≡ later′)
 same-read {t} {t′} {later} {later′} a b =
     let e : _≡_ {A = Step × ℕ} (t, later) (t′, later′) = cc in
     (ap (λ (y : Step × ℕ). y .0) e, ap (λ (y : Step × ℕ). y .1) e)

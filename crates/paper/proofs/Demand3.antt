@@ -13,6 +13,8 @@ use Rattle.paper.specs.Files.{File, Read, ok, bad, Step, RUP-step, SR-st
 use Rattle.paper.specs.Stowages.{Stowage, Meets, carried}
 use Rattle.paper.specs.Refusals.{read-formula, read-step}
 use Rattle.paper.specs.Answers.{Outcome, taken, stops, Judged, rup, sr, wsr, deleted, Steps, refuted, held, unread, judged, goes-on, Answer, work-short, file-long, formula-bad, proof-judged, stowed, Carried, start, step}
+use Rattle.paper.proofs.Judging.{judged-once}
+use Rattle.paper.proofs.Answering.{same-read}
 use Rattle.paper.proofs.Soundness.{WSR-sound, SR-sound, RUP-step-sound, DELETE-sound, empty-refutes}
 
 -- one step
@@ -50,6 +52,35 @@ steps-carry (judged a b c) (suc k) h I = absurd (omega arith)
 steps-carry (goes-on {t = t} a b j x) (suc k) h I =
     let r = steps-carry x k (omega arith) (stowed t I) in
     (r .0, r .1, step a b j (r .2))
+
+-- And only those are taken: k steps that meet their conditions are k steps that the answer counts.
+done-counted : {proof : File} {vars : ℕ} {F : Formula} {next done at : ℕ} {v : Verdict} → Steps proof vars F next done at v → done ≤ steps-taken v
+unfolding steps-taken
+done-counted (refuted a b) = omega arith
+done-counted (held a b) = omega arith
+done-counted (unread a b) = omega arith
+done-counted (judged a b c) = omega arith
+done-counted (goes-on a b j x) = let h = done-counted x in omega arith
+
+pub carried-counted : {proof : File} {vars k : ℕ} {F G : Formula} {next at : ℕ} {I J : Stowage} → Carried proof vars k F next at I G J
+    → (done : ℕ) (v : Verdict) → Steps proof vars F next done at v → done + k ≤ steps-taken v
+carried-counted start done v x = let h = done-counted x in omega arith
+carried-counted (step a b j c) done v (refuted d e) = absurd (omega arith)
+carried-counted (step a b j c) done v (held d e) = absurd (omega arith)
+carried-counted (step a b j c) done v (unread d e) = let z : _≡_ {A = ℕ} 0 1 = cc in absurd (omega arith)
+carried-counted (step {F = F} {H = H} {next = next} {m = m} {t = t} a b j c) done v (judged {r = r} {p = p} d e i) =
+    let q = judged-once F next t (taken H m) (stops r p) j (subst (λ (y : Step). Judged F next y (stops r p)) (sym ((same-read b e) .0)) i) in
+    let z : _≡_ {A = ℕ} 0 1 = cc in absurd (omega arith)
+carried-counted {proof} {vars} (step {F = F} {H = H} {next = next} {m = m} {later = later} {t = t} a b j c) done v (goes-on {G = G′} {m = m′} d e i x) =
+    let same = same-read b e in
+    let q = judged-once F next t (taken H m) (taken G′ m′) j (subst (λ (y : Step). Judged F next y (taken G′ m′)) (sym (same .0)) i) in
+    let g : H ≡ G′ = cc in
+    let n : m ≡ m′ = cc in
+    let h = carried-counted c (suc done) v
+    (subst (λ (z : Formula). Steps proof vars z m (suc done) later v) (sym g)
+    (subst (λ (z : ℕ). Steps proof vars G′ z (suc done) later v) (sym n)
+    (subst (λ (z : ℕ). Steps proof vars G′ m′ (suc done) z v) (sym (same .1)) x))) in
+    omega arith
 
 -- no stowage meets what is refuted
 abbrev Unmet : Formula → Verdict → Type 0
