@@ -1,0 +1,2 @@
+-- What the checks of one clause's codes say, and the marks that they make.
+pub mod Check
