@@ -1,11 +1,14 @@
 -- What the checks of one clause's codes say, and the marks that they make in the table of the variables.
-use Prim.Native.Nat.{ℕ, _-_, _/_}
+use Prim.Native.Nat.{ℕ, _+_, _-_, _/_, _%_, _≤_, _<_}
+use mathlib.Core.Path.{_≡_}
 use mathlib.Core.List.{List, [], _∷_, map}
+use lib.ListN.{length}
 use Rattle.paper.specs.declared.Reason.{Reason}
 use Rattle.paper.specs.declared.Reason.the-variants.{ClauseLong}
 use Rattle.paper.specs.declared.Extent.{Extent}
-use Rattle.paper.specs.Atoms.{Clause}
-use Rattle.paper.specs.Files.{Read, ok, bad}
+use Rattle.paper.specs.Atoms.{_∈_, Clause}
+use Rattle.paper.specs.Files.{File, Read, ok, bad, payload, codes}
+use Rattle.paper.specs.Refusals.{no-two}
 use Rattle.table.specs.Table.{setValue}
 use Rattle.clauses.specs.declared.First.{First}
 use Rattle.clauses.specs.declared.First.the-variants.{At, Nowhere}
@@ -13,6 +16,12 @@ use Rattle.clauses.specs.declared.First.the-variants.{At, Nowhere}
 -- the variables of a clause's codes
 abbrev pub variables : Clause → List ℕ
 variables C = map (λ l. l / 2) C
+
+-- a payload that lies in the file and holds whole codes, each of a variable that the table has room for
+pub record Fitting (f : File) (e : Extent) : Type 0 where
+  pub within : e .start + e .size ≤ length f
+  pub whole : e .size % 2 ≡ 0
+  pub small : (l : ℕ) → l ∈ codes (payload f e) → l < 8192
 
 -- what the paper says, for a reason, by the first place that fails its test
 unfoldable pub placeSaid : Reason → First → Read (Unit {0})
@@ -33,3 +42,10 @@ unmarked t (v ∷ vs) = unmarked (setValue t v 0) vs
 unfoldable pub upTo : First → Extent → Extent
 upTo Nowhere e = e
 upTo (At p) e = record { start = e .start; size = p - e .start }
+
+-- A look for a variable that stands twice ended with r: what the paper says, and the table u that it left of t, where the
+-- variables before the place found are marked.
+pub record Looked (f : File) (e : Extent) (t u : List ℕ) (r : First) : Type 0 where
+  pub said : (why : Reason) → no-two why [] 2 (e .start) (variables (codes (payload f e))) ≡ placeSaid why r
+  pub fits : Fitting f (upTo r e)
+  pub table : u ≡ marked t (variables (codes (payload f (upTo r e))))

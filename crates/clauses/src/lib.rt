@@ -6,11 +6,10 @@ ghost use mathlib.Core.List.{[]};
 ghost use Prim.Native.Nat.{ℕ, _+_, _*_, _-_, _%_, _≤_, _<_};
 ghost use lib.ListN.{length};
 ghost use Rattle.paper.specs.declared.Reason.{Reason};
-ghost use Rattle.paper.specs.Atoms.{_∈_};
 ghost use Rattle.paper.specs.Files.{payload, codes};
 ghost use Rattle.paper.specs.Refusals.{each, no-two, between, check-clause};
 ghost use Rattle.table.specs.Table.{Zero};
-ghost use Rattle.clauses.specs.Check.{placeSaid};
+ghost use Rattle.clauses.specs.Check.{variables, Fitting, placeSaid, unmarked, Looked};
 
 // The first place that fails a test, as an offset in the file.
 pub enum First {
@@ -36,4 +35,36 @@ fn first_out_of_range(file: &[u8], e: Extent, vars: usize) -> First
         i += 2;
     }
     First::Nowhere
+}
+
+// The first code whose variable stands in the clause already. The variables before it are marked in the table, all of them where
+// there is none.
+fn first_twice(file: &[u8], e: Extent, t: &mut [u8]) -> First
+    requires { ⌜ Fitting (now file) e × ((8192 ≤ length (now t)) × Zero (now t)) ⌝ }
+    ensures { λ r. ⌜ Looked (now (file .entry)) e (now (t .entry)) (now (t .exit)) r ⌝ }
+{
+    let mut i = e.start;
+    let end = e.start + e.size;
+    while i < end {
+        let v = field::pair_at(file, i) / 2;
+        if table::value(t, v) != 0 {
+            return First::At(i);
+        }
+        table::set_value(t, v, 1);
+        i += 2;
+    }
+    First::Nowhere
+}
+
+// Clears the mark of each variable of the codes.
+fn clear_marks(file: &[u8], e: Extent, t: &mut [u8])
+    requires { ⌜ Fitting (now file) e × (8192 ≤ length (now t)) ⌝ }
+    ensures { λ _. ⌜ now (t .exit) ≡ unmarked (now (t .entry)) (variables (codes (payload (now (file .entry)) e))) ⌝ }
+{
+    let mut i = e.start;
+    let end = e.start + e.size;
+    while i < end {
+        table::set_value(t, field::pair_at(file, i) / 2, 0);
+        i += 2;
+    }
 }
