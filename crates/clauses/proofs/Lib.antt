@@ -1,3 +1,4 @@
 pub mod Parts
 pub mod Range
 pub mod Marks
+pub mod Check

@@ -245,6 +245,10 @@ module _ (f : File) (x : Extent) {t₀ t : List ℕ} {i : ℕ} (g : Fitting f x)
     said = said (At i) (λ why.
         ap (λ C. no-two why (m .seen) 2 i (variables C)) (walk-code (m .walk) l h e)
         ∙ no-two-found why (m .seen) i (l / 2) _ (mark-some (is-in (l / 2) (m .seen)) (valueAt t (l / 2)) (m .marks (l / 2)) ne));
+    from = λ p q.
+        let same : i ≡ p = cc in
+        let a = m .walk .from in
+        omega arith;
     fits = fits-before;
     table =
         sym (ap (λ C. marked t (variables C)) none-left)
@@ -256,9 +260,21 @@ module _ (f : File) (x : Extent) {t₀ t : List ℕ} {i : ℕ} (g : Fitting f x)
   unfolding marked placeSaid upTo no-two
   marking-end h = record {
     said = said Nowhere (λ why. ap (λ C. no-two why (m .seen) 2 i (variables C)) (walk-end (m .walk) h));
+    from = λ p q. let z : _≡_ {A = ℕ} 0 1 = cc in absurd (omega arith);
     fits = g;
     table =
         sym (ap (λ C. marked t (variables C)) (walk-end (m .walk) h))
         ∙ m .table (x .start + x .size) (m .walk .to) (omega arith)
         ∙ ap (λ C. marked t₀ (variables C)) (part-payload f x);
   }
+
+-- the look's answer under another name for it
+pub looked-as : {f : File} {x : Extent} {t u : List ℕ} {r s : First} → Looked f x t u r → r ≡ s → Looked f x t u s
+looked-as {f} {x} {t} {u} {r} {s} k e = subst (λ (y : First). Looked f x t u y) e k
+
+-- its marks cleared: the table as it was
+pub looked-cleared : {f : File} {x : Extent} {t u : List ℕ} {r : First} → Zero t → Looked f x t u r
+    → unmarked u (variables (codes (payload f (upTo r x)))) ≡ t
+looked-cleared {f} {x} {t} {u} {r} z k =
+    ap (λ (y : List ℕ). unmarked y (variables (codes (payload f (upTo r x))))) (k .table)
+    ∙ marks-cleared t (variables (codes (payload f (upTo r x)))) z

@@ -12,6 +12,8 @@ use Rattle.paper.specs.Refusals.{no-two}
 use Rattle.table.specs.Table.{setValue}
 use Rattle.clauses.specs.declared.First.{First}
 use Rattle.clauses.specs.declared.First.the-variants.{At, Nowhere}
+use Rattle.clauses.specs.declared.ClauseCheck.{ClauseCheck}
+use Rattle.clauses.specs.declared.ClauseCheck.the-variants.{Fine, Range, Twice, Long}
 
 -- the variables of a clause's codes
 abbrev pub variables : Clause → List ℕ
@@ -47,5 +49,20 @@ upTo (At p) e = record { start = e .start; size = p - e .start }
 -- variables before the place found are marked.
 pub record Looked (f : File) (e : Extent) (t u : List ℕ) (r : First) : Type 0 where
   pub said : (why : Reason) → no-two why [] 2 (e .start) (variables (codes (payload f e))) ≡ placeSaid why r
+  pub from : (p : ℕ) → r ≡ At p → e .start ≤ p
   pub fits : Fitting f (upTo r e)
   pub table : u ≡ marked t (variables (codes (payload f (upTo r e))))
+
+-- what check_clause asks: a payload of whole codes, three bytes past its tag, and a number of variables within the paper's limit
+pub record Checkable (f : File) (e : Extent) (vars : ℕ) : Type 0 where
+  pub within : e .start + e .size ≤ length f
+  pub whole : e .size % 2 ≡ 0
+  pub tagged : 3 ≤ e .start
+  pub limit : vars ≤ 4095
+
+-- what the paper says of a clause, by the code's answer
+unfoldable pub clauseSaid : Reason → Reason → ℕ → ClauseCheck → Read (Unit {0})
+clauseSaid range twice tag Fine = ok tt
+clauseSaid range twice tag (Range p) = bad range p
+clauseSaid range twice tag (Twice p) = bad twice p
+clauseSaid range twice tag Long = bad ClauseLong tag

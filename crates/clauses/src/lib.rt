@@ -9,7 +9,7 @@ ghost use Rattle.paper.specs.declared.Reason.{Reason};
 ghost use Rattle.paper.specs.Files.{payload, codes};
 ghost use Rattle.paper.specs.Refusals.{each, no-two, between, check-clause};
 ghost use Rattle.table.specs.Table.{Zero};
-ghost use Rattle.clauses.specs.Check.{variables, Fitting, placeSaid, unmarked, Looked};
+ghost use Rattle.clauses.specs.Check.{variables, Fitting, placeSaid, unmarked, Looked, Checkable, clauseSaid};
 
 // The first place that fails a test, as an offset in the file.
 pub enum First {
@@ -67,4 +67,60 @@ fn clear_marks(file: &[u8], e: Extent, t: &mut [u8])
         table::set_value(t, field::pair_at(file, i) / 2, 0);
         i += 2;
     }
+}
+
+// The first code whose variable stands in the clause already, with the table left as it was.
+fn variable_twice(file: &[u8], e: Extent, t: &mut [u8]) -> First
+    requires { ⌜ Fitting (now file) e × ((8192 ≤ length (now t)) × Zero (now t)) ⌝ }
+    ensures said { λ r. ⌜ ((twice : Reason) → no-two twice [] 2 (e .start) (variables (codes (payload (now (file .entry)) e))) ≡ placeSaid twice r) ⌝ }
+    ensures table { λ _. ⌜ now (t .exit) ≡ now (t .entry) ⌝ }
+{
+    let found = first_twice(file, e, t);
+    match found {
+        First::At(p) => {
+            let start = e.start;
+            clear_marks(
+                file,
+                Extent {
+                    start,
+                    size: p - start,
+                },
+                t,
+            );
+            First::At(p)
+        }
+        First::Nowhere => {
+            clear_marks(file, e, t);
+            First::Nowhere
+        }
+    }
+}
+
+// What is wrong with a clause, and the offset of the code concerned.
+pub enum ClauseCheck {
+    Fine,
+    // A code outside 2 to 2 vars + 1.
+    Range(usize),
+    // The second code of a variable.
+    Twice(usize),
+    // More than vars codes.
+    Long,
+}
+
+pub fn check_clause(file: &[u8], e: Extent, vars: usize, t: &mut [u8]) -> ClauseCheck
+    requires { ⌜ Checkable (now file) e vars × ((8192 ≤ length (now t)) × Zero (now t)) ⌝ }
+    ensures said { λ r. ⌜ ((range twice : Reason) → check-clause range twice vars (e .start - 3) (codes (payload (now (file .entry)) e)) ≡ clauseSaid range twice (e .start - 3) r) ⌝ }
+    ensures table { λ _. ⌜ now (t .exit) ≡ now (t .entry) ⌝ }
+{
+    if let First::At(p) = first_out_of_range(file, e, vars) {
+        return ClauseCheck::Range(p);
+    }
+    if let First::At(p) = variable_twice(file, e, t) {
+        return ClauseCheck::Twice(p);
+    }
+    let size = e.size;
+    if vars < size / 2 {
+        return ClauseCheck::Long;
+    }
+    ClauseCheck::Fine
 }
