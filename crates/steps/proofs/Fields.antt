@@ -1,0 +1,297 @@
+-- The fields of a step: what the code's answer says of the paper's reading, and where they lie.
+-- Assumes nothing.
+use Prim.Native.Nat.{ℕ, _+_, _%_, _≤_, _<_}
+use mathlib.Core.Path.{_≡_, refl, sym, ap, _∙_, subst}
+use mathlib.Core.Logic.{_≢_}
+use mathlib.Core.Bool.{Bool, true, false, true≢false, false≢true}
+use native.Mathlib.Omega.{arith}
+use lib.Dec.{eqb, leb}
+use lib.ListN.{length, getD}
+use Rattle.paper.specs.declared.Reason.{Reason}
+use Rattle.paper.specs.declared.Reason.the-variants.{ProofField}
+use Rattle.paper.specs.declared.Extent.{Extent}
+use Rattle.paper.specs.declared.Fields.{Fields}
+use Rattle.paper.specs.Files.{File, Read, ok, bad, _>>=_, _>>_, need, two, past, field, even, fours}
+use Rattle.paper.specs.Refusals.{between, field-if, read-fields}
+use Rattle.paper.proofs.Lists.{eqb-yes, eqb-no, eqb-same, eqb-other, leb-within, leb-beyond}
+use Rattle.paper.proofs.Reading.{Then, then-bind, then-seq, need-then, between-yes}
+use Rattle.field.specs.declared.Expected.{Expected}
+use Rattle.field.specs.declared.Expected.the-variants.{Found, Wrong}
+use Rattle.field.specs.Field.{expectedOf}
+use Rattle.field.proofs.Laws.{found, wrong, Stands, stands}
+use Rattle.steps.specs.declared.FieldsRead.the-variants.{Whole, Bad}
+use Rattle.steps.specs.Steps.{fieldsOf}
+
+-- the test of a range, by the tests that its code makes
+pub below : (low high x : ℕ) → x < low → false ≡ between low high x
+unfolding between
+below low high x h = rw (leb-beyond low x h)
+
+pub not-below : (low high x : ℕ) → low ≤ x → leb x high ≡ between low high x
+unfolding between
+not-below low high x h = rw (leb-within low x h)
+
+-- a field that the step's tag may ask for: found, or refused at its place
+module _ (b : Bool) (tag : ℕ) (allowed : ℕ → Bool) (f : File) (at : ℕ) where
+  pub asked : b ≡ true → (r : Expected) → r ≡ expectedOf (field ProofField tag allowed f at) → r ≡ expectedOf (field-if b tag allowed f at)
+  unfolding field-if
+  asked e r q = rw e q
+
+  pub not-asked : b ≡ false → Found (record { start = at; size = 0 }) ≡ expectedOf (field-if b tag allowed f at)
+  unfolding field-if expectedOf
+  not-asked e = rw e
+
+pub same-test : (b d : Bool) (tag : ℕ) (allowed : ℕ → Bool) (f : File) (at : ℕ) (r : Expected) → b ≡ d → r ≡ expectedOf (field-if b tag allowed f at)
+    → r ≡ expectedOf (field-if d tag allowed f at)
+same-test b d tag allowed f at r e q = rw (← e) q
+
+pub found-if : (b : Bool) (tag : ℕ) (allowed : ℕ → Bool) (f : File) (at : ℕ) (e : Extent) → Found e ≡ expectedOf (field-if b tag allowed f at)
+    → field-if b tag allowed f at ≡ ok e
+unfolding field-if expectedOf
+found-if true tag allowed f at e q = found ProofField tag allowed f at e q
+found-if false tag allowed f at e q = cc
+
+pub wrong-if : (b : Bool) (tag : ℕ) (allowed : ℕ → Bool) (f : File) (at : ℕ) → Wrong ≡ expectedOf (field-if b tag allowed f at)
+    → field-if b tag allowed f at ≡ bad ProofField at
+unfolding field-if expectedOf
+wrong-if true tag allowed f at q = wrong ProofField tag allowed f at q
+wrong-if false tag allowed f at q = let z : _≡_ {A = ℕ} 0 1 = cc in absurd (omega arith)
+
+-- 1. Where the fields lie.
+even-yes : (n : ℕ) → even n ≡ true → n % 2 ≡ 0
+unfolding even
+even-yes n e = eqb-yes (n % 2) 0 e
+
+fours-yes : (n : ℕ) → fours n ≡ true → n % 4 ≡ 0
+unfolding fours
+fours-yes n e = eqb-yes (n % 4) 0 e
+
+-- a field that the step's tag may ask for
+pub record Lies-if (b : Bool) (allowed : ℕ → Bool) (f : File) (at : ℕ) (e : Extent) : Type 0 where
+  pub starts : at ≤ e .start
+  pub within : e .start + e .size ≤ length f
+  pub length-allowed : allowed (e .size) ≡ true
+  pub unasked : b ≡ false → e .size ≡ 0
+
+lies-if : (b : Bool) (tag : ℕ) (allowed : ℕ → Bool) (f : File) (at : ℕ) (e : Extent) → allowed 0 ≡ true → at ≤ length f
+    → field-if b tag allowed f at ≡ ok e → Lies-if b allowed f at e
+unfolding field-if
+lies-if true tag allowed f at e z h q =
+    let s = stands ProofField tag allowed f at e q in
+    record {
+      starts = omega (arith, s .start);
+      within = s .within;
+      length-allowed = s .length-allowed;
+      unasked = λ no. absurd (true≢false no);
+    }
+lies-if false tag allowed f at e z h q = rw (← x) (record { starts = omega arith; within = omega arith; length-allowed = z; unasked = λ _. refl })
+  where
+    x : _≡_ {A = Extent} (record { start = at; size = 0 }) e
+    x = cc
+
+-- the fields of a step, when the paper's reading finds them: in the proof, of the lengths that are allowed, and none where the
+-- step's tag does not ask for one. 0x11 RUP, 0x12 SR, 0x13 WSR, 0x14 DELETE.
+pub record Lie (f : File) (at : ℕ) (x : Fields) : Type 0 where
+  pub tag-from : 0x11 ≤ getD f at 0
+  pub tag-to : getD f at 0 ≤ 0x14
+  pub clause-within : x .clause .start + x .clause .size ≤ length f
+  pub witness-within : x .witness .start + x .witness .size ≤ length f
+  pub numbers-within : x .numbers .start + x .numbers .size ≤ length f
+  pub clause-even : x .clause .size % 2 ≡ 0
+  pub witness-fours : x .witness .size % 4 ≡ 0
+  pub numbers-even : x .numbers .size % 2 ≡ 0
+  pub further : at < x .next
+  pub inside : x .next ≤ length f
+  -- the new clause is the payload of the field whose tag is the step's
+  pub new : getD f at 0 ≢ 0x14 → field ProofField (getD f at 0) even f at ≡ ok (x .clause)
+  pub new-start : getD f at 0 ≢ 0x14 → x .clause .start ≡ at + 3
+  pub no-new : getD f at 0 ≡ 0x14 → x .clause .size ≡ 0
+  pub no-witness : between 0x12 0x13 (getD f at 0) ≡ false → x .witness .size ≡ 0
+  pub no-numbers : getD f at 0 < 0x13 → x .numbers .size ≡ 0
+
+-- 2. The paper's reading of a step's fields, by what stands at each place. c, w and n are the fields found one after the other.
+module _ (f : File) (at : ℕ) where
+  pub tag-refused : between 0x11 0x14 (getD f at 0) ≡ false → read-fields f at ≡ bad ProofField at
+  unfolding read-fields need _>>_ _>>=_
+  tag-refused t = rw (t, read-fields)
+
+  module _ (t : between 0x11 0x14 (getD f at 0) ≡ true) where
+    pub clause-refused : field ProofField (getD f at 0) even f at ≡ bad ProofField at → read-fields f at ≡ bad ProofField at
+    unfolding read-fields need _>>_ _>>=_
+    clause-refused q = rw (t, q, read-fields)
+
+    module _ (c : Extent) (hc : field ProofField (getD f at 0) even f at ≡ ok c) where
+      pub clause-lies : Stands (getD f at 0) even f at c
+      clause-lies = stands ProofField (getD f at 0) even f at c hc
+
+      pub witness-refused : field-if (between 0x12 0x13 (getD f at 0)) 0x21 fours f (past c) ≡ bad ProofField (past c)
+          → read-fields f at ≡ bad ProofField (past c)
+      unfolding read-fields need _>>_ _>>=_
+      witness-refused q = rw (t, hc, q, read-fields)
+
+      module _ (w : Extent) (hw : field-if (between 0x12 0x13 (getD f at 0)) 0x21 fours f (past c) ≡ ok w) where
+        pub witness-lies : Lies-if (between 0x12 0x13 (getD f at 0)) fours f (past c) w
+        unfolding past fours
+        witness-lies = lies-if (between 0x12 0x13 (getD f at 0)) 0x21 fours f (past c) w refl (clause-lies .within) hw
+
+        pub modulo-refused : field-if (eqb (getD f at 0) 0x13) 0x22 even f (past w) ≡ bad ProofField (past w) → read-fields f at ≡ bad ProofField (past w)
+        unfolding read-fields need _>>_ _>>=_
+        modulo-refused q = rw (t, hc, hw, q, read-fields)
+
+        module _ (n : Extent) (hn : field-if (eqb (getD f at 0) 0x13) 0x22 even f (past w) ≡ ok n) where
+          pub modulo-lies : Lies-if (eqb (getD f at 0) 0x13) even f (past w) n
+          unfolding past even
+          modulo-lies = lies-if (eqb (getD f at 0) 0x13) 0x22 even f (past w) n refl (witness-lies .within) hn
+
+          pub delete-read : getD f at 0 ≡ 0x14 → read-fields f at ≡ ok (record { clause = n; witness = n; numbers = c; next = past c })
+          unfolding read-fields need _>>_ _>>=_
+          delete-read e = rw (t, hc, hw, hn, eqb-same (getD f at 0) 0x14 e, read-fields)
+
+          pub clause-read : getD f at 0 ≢ 0x14 → read-fields f at ≡ ok (record { clause = c; witness = w; numbers = n; next = past n })
+          unfolding read-fields need _>>_ _>>=_
+          clause-read ne = rw (t, hc, hw, hn, eqb-other (getD f at 0) 0x14 ne, read-fields)
+
+          delete-lies : getD f at 0 ≡ 0x14 → Lie f at (record { clause = n; witness = n; numbers = c; next = past c })
+          unfolding past
+          delete-lies e =
+              let r = between-yes 0x11 0x14 (getD f at 0) t in
+              let other : getD f at 0 ≢ 0x13 = omega arith in
+              let none : n .size ≡ 0 = modulo-lies .unasked (eqb-other (getD f at 0) 0x13 other) in
+              let s = clause-lies .start in
+              record {
+                tag-from = r .0;
+                tag-to = r .1;
+                clause-within = modulo-lies .within;
+                witness-within = modulo-lies .within;
+                numbers-within = clause-lies .within;
+                clause-even = even-yes (n .size) (modulo-lies .length-allowed);
+                witness-fours = rw none;
+                numbers-even = even-yes (c .size) (clause-lies .length-allowed);
+                further = omega arith;
+                inside = clause-lies .within;
+                new = λ ne. absurd (ne e);
+                new-start = λ ne. absurd (ne e);
+                no-new = λ _. none;
+                no-witness = λ _. none;
+                no-numbers = λ l. absurd (omega arith);
+              }
+
+          new-lies : getD f at 0 ≢ 0x14 → Lie f at (record { clause = c; witness = w; numbers = n; next = past n })
+          unfolding past
+          new-lies ne =
+              let r = between-yes 0x11 0x14 (getD f at 0) t in
+              let s = clause-lies .start in
+              let u = witness-lies .starts in
+              let v = modulo-lies .starts in
+              record {
+                tag-from = r .0;
+                tag-to = r .1;
+                clause-within = clause-lies .within;
+                witness-within = witness-lies .within;
+                numbers-within = modulo-lies .within;
+                clause-even = even-yes (c .size) (clause-lies .length-allowed);
+                witness-fours = fours-yes (w .size) (witness-lies .length-allowed);
+                numbers-even = even-yes (n .size) (modulo-lies .length-allowed);
+                further = omega arith;
+                inside = modulo-lies .within;
+                new = λ _. hc;
+                new-start = λ _. s;
+                no-new = λ e. absurd (ne e);
+                no-witness = witness-lies .unasked;
+                no-numbers = λ l. modulo-lies .unasked (eqb-other (getD f at 0) 0x13 (omega arith));
+              }
+
+          either-lies : (b : Bool) → eqb (getD f at 0) 0x14 ≡ b
+              → Lie f at (elim b [
+                | true ↦ record { clause = n; witness = n; numbers = c; next = past c }
+                | false ↦ record { clause = c; witness = w; numbers = n; next = past n }
+              ])
+          either-lies true e = delete-lies (eqb-yes (getD f at 0) 0x14 e)
+          either-lies false e = new-lies (eqb-no (getD f at 0) 0x14 e)
+
+itself : {A : Type 0} (m : Read A) → Then (λ a. m ≡ ok a) m
+itself (ok a) = refl
+itself (bad r p) = tt
+
+then-lie : (f : File) (at : ℕ) → Then (Lie f at) (read-fields f at)
+unfolding read-fields
+then-lie f at =
+    then-seq _ _ _ _ (need-then (between 0x11 0x14 (getD f at 0)) ProofField at) λ _ t.
+    then-bind _ _ _ _ (itself (field ProofField (getD f at 0) even f at)) λ c hc.
+    then-bind _ _ _ _ (itself (field-if (between 0x12 0x13 (getD f at 0)) 0x21 fours f (past c))) λ w hw.
+    then-bind _ _ _ _ (itself (field-if (eqb (getD f at 0) 0x13) 0x22 even f (past w))) λ n hn.
+    either-lies f at t c hc w hw n hn (eqb (getD f at 0) 0x14) refl
+
+pub lie : (f : File) (at : ℕ) (x : Fields) → read-fields f at ≡ ok x → Lie f at x
+lie f at x q = subst (Then (Lie f at)) q (then-lie f at)
+
+-- 3. Whatever refuses the fields, refuses them for reason 8.
+abbrev Only : {A : Type 0} → Reason → Read A → Type 0
+Only r (ok a) = Unit {0}
+Only r (bad s p) = s ≡ r
+
+only-bind : {A B : Type 0} (r : Reason) (m : Read A) (f : A → Read B) → Only r m → ((a : A) → Only r (f a)) → Only r (m >>= f)
+unfolding _>>=_
+only-bind r (ok a) f p k = k a
+only-bind r (bad s q) f p k = p
+
+only-seq : {A B : Type 0} (r : Reason) (m : Read A) (n : Read B) → Only r m → Only r n → Only r (m >> n)
+unfolding _>>_
+only-seq r (ok a) n p k = k
+only-seq r (bad s q) n p k = p
+
+only-need : (b : Bool) (r : Reason) (p : ℕ) → Only r (need b r p)
+unfolding need
+only-need true r p = tt
+only-need false r p = refl
+
+only-field : (r : Reason) (tag : ℕ) (allowed : ℕ → Bool) (f : File) (at : ℕ) → Only r (field r tag allowed f at)
+unfolding field
+only-field r tag allowed f at =
+    only-seq r _ _ (only-need (leb (at + 3) (length f)) r at)
+    (only-seq r _ _ (only-need (eqb (getD f at 0) tag) r at)
+    (only-seq r _ _ (only-need (allowed (two f (at + 1))) r at)
+    (only-seq r _ _ (only-need (leb (at + 3 + two f (at + 1)) (length f)) r at) tt)))
+
+only-field-if : (b : Bool) (tag : ℕ) (allowed : ℕ → Bool) (f : File) (at : ℕ) → Only ProofField (field-if b tag allowed f at)
+unfolding field-if
+only-field-if true tag allowed f at = only-field ProofField tag allowed f at
+only-field-if false tag allowed f at = tt
+
+only-fields : (f : File) (at : ℕ) → Only ProofField (read-fields f at)
+unfolding read-fields
+only-fields f at =
+    only-seq ProofField _ _ (only-need (between 0x11 0x14 (getD f at 0)) ProofField at)
+    (only-bind ProofField _ _ (only-field ProofField (getD f at 0) even f at) λ c.
+    only-bind ProofField _ _ (only-field-if (between 0x12 0x13 (getD f at 0)) 0x21 fours f (past c)) λ w.
+    only-bind ProofField _ _ (only-field-if (eqb (getD f at 0) 0x13) 0x22 even f (past w)) λ n. tt)
+
+-- The code's answer from the paper's reading, and what a caller concludes from it.
+module _ (f : File) (at : ℕ) where
+  pub as-whole : (x : Fields) → read-fields f at ≡ ok x → Whole x ≡ fieldsOf (read-fields f at)
+  unfolding fieldsOf
+  as-whole x q = rw q
+
+  pub as-bad : (p : ℕ) → read-fields f at ≡ bad ProofField p → Bad p ≡ fieldsOf (read-fields f at)
+  unfolding fieldsOf
+  as-bad p q = rw q
+
+  pub whole : (x : Fields) → Whole x ≡ fieldsOf (read-fields f at) → read-fields f at ≡ ok x
+  unfolding fieldsOf
+  whole x q = go (read-fields f at) q
+    where
+      go : (m : Read Fields) → Whole x ≡ fieldsOf m → m ≡ ok x
+      go (ok y) q = cc
+      go (bad r p) q = let z : _≡_ {A = ℕ} 0 1 = cc in absurd (omega arith)
+
+  pub refused : (p : ℕ) → Bad p ≡ fieldsOf (read-fields f at) → read-fields f at ≡ bad ProofField p
+  unfolding fieldsOf
+  refused p q = go (read-fields f at) (only-fields f at) q
+    where
+      go : (m : Read Fields) → Only ProofField m → Bad p ≡ fieldsOf m → m ≡ bad ProofField p
+      go (ok y) o q = let z : _≡_ {A = ℕ} 0 1 = cc in absurd (omega arith)
+      go (bad r s) o q = cc
+
+-- whole: so the fields lie there
+pub whole-lie : (f : File) (at : ℕ) (x : Fields) → Whole x ≡ fieldsOf (read-fields f at) → Lie f at x
+whole-lie f at x q = lie f at x (whole f at x q)

@@ -1,0 +1,73 @@
+// What is read and refused of one step of a proof: its fields (reason 8), the ranges of its witness (reason 9) and the clause
+// numbers that it names (reason 11); and the clause table cleared of those numbers.
+use field::Expected;
+use field::Length;
+use paper::Extent;
+use paper::Fields;
+ghost use mathlib.Core.Path.{_≡_};
+ghost use Prim.Native.Nat.{_+_, _<_};
+ghost use lib.ListN.{length};
+ghost use Rattle.paper.specs.Refusals.{between, field-if, read-fields};
+ghost use Rattle.field.specs.Field.{allowedBy, expectedOf};
+ghost use Rattle.steps.specs.Steps.{fieldsOf};
+
+// The fields of a step; or the place where one is missing, has the wrong tag, is cut short or has a length that is not allowed.
+pub enum FieldsRead {
+    Whole(Fields),
+    Bad(usize),
+}
+
+fn within(low: u8, high: u8, x: u8) -> bool
+    ensures { λ r. ⌜ r ≡ between low high x ⌝ }
+{
+    if x < low {
+        return false;
+    }
+    x <= high
+}
+
+// A field that stands at a place only if the step's tag asks for it; else nothing stands there.
+fn expect_if(s: &[u8], asked: bool, at: usize, tag: u8, l: Length) -> Expected
+    ensures { λ r. ⌜ r ≡ expectedOf (field-if asked tag (allowedBy l) (now (s .entry)) at) ⌝ }
+{
+    if asked {
+        return field::expect(s, at, tag, l);
+    }
+    Expected::Found(Extent { start: at, size: 0 })
+}
+
+pub fn read_fields(proof: &[u8], at: usize) -> FieldsRead
+    requires { ⌜ at < length (now proof) ⌝ }
+    ensures { λ r. ⌜ r ≡ fieldsOf (read-fields (now (proof .entry)) at) ⌝ }
+{
+    let tag = proof[at];
+    if !within(0x11, 0x14, tag) {
+        return FieldsRead::Bad(at);
+    }
+    let Expected::Found(c) = field::expect(proof, at, tag, Length::Even) else {
+        return FieldsRead::Bad(at);
+    };
+    let past_c = c.start + c.size;
+    let Expected::Found(w) = expect_if(proof, within(0x12, 0x13, tag), past_c, 0x21, Length::Fours)
+    else {
+        return FieldsRead::Bad(past_c);
+    };
+    let past_w = w.start + w.size;
+    let Expected::Found(n) = expect_if(proof, tag == 0x13, past_w, 0x22, Length::Even) else {
+        return FieldsRead::Bad(past_w);
+    };
+    if tag == 0x14 {
+        return FieldsRead::Whole(Fields {
+            clause: n,
+            witness: n,
+            numbers: c,
+            next: past_c,
+        });
+    }
+    FieldsRead::Whole(Fields {
+        clause: c,
+        witness: w,
+        numbers: n,
+        next: n.start + n.size,
+    })
+}
