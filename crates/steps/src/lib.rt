@@ -5,11 +5,14 @@ use field::Length;
 use paper::Extent;
 use paper::Fields;
 ghost use mathlib.Core.Path.{_≡_};
-ghost use Prim.Native.Nat.{_+_, _<_};
+ghost use Prim.Native.Nat.{_+_, _%_, _≤_, _<_};
 ghost use lib.ListN.{length};
-ghost use Rattle.paper.specs.Refusals.{between, field-if, read-fields};
+ghost use Rattle.paper.specs.declared.Reason.the-variants.{ProofCode, NumberNotLive};
+ghost use Rattle.paper.specs.Files.{File, payload, codes, mappings};
+ghost use Rattle.paper.specs.Refusals.{between, field-if, read-fields, check-mappings, check-numbers};
 ghost use Rattle.field.specs.Field.{allowedBy, expectedOf};
-ghost use Rattle.steps.specs.Steps.{fieldsOf};
+ghost use Rattle.lookup.specs.Live.{live};
+ghost use Rattle.steps.specs.Steps.{fieldsOf, checkedBy, Removed};
 
 // The fields of a step; or the place where one is missing, has the wrong tag, is cut short or has a length that is not allowed.
 pub enum FieldsRead {
@@ -70,4 +73,75 @@ pub fn read_fields(proof: &[u8], at: usize) -> FieldsRead
         numbers: n,
         next: n.start + n.size,
     })
+}
+
+// Whether all of a field is in order; or the place of the first two bytes that are not.
+pub enum Checked {
+    Fine,
+    At(usize),
+}
+
+// Reason 9 over the payload of a WITNESS: a variable outside 1 to V, an atom outside 0 to 2V+1.
+pub fn check_mappings(proof: &[u8], e: Extent, vars: usize) -> Checked
+    requires { ⌜ (e .start + e .size ≤ length (now proof)) × ((e .size % 4 ≡ 0) × (vars ≤ 4095)) ⌝ }
+    ensures { λ r. ⌜ check-mappings vars (e .start) (mappings (codes (payload (now (proof .entry)) e))) ≡ checkedBy ProofCode r ⌝ }
+{
+    let end = e.start + e.size;
+    let mut i = e.start;
+    while i < end {
+        let v = field::pair_at(proof, i);
+        if v < 1 {
+            return Checked::At(i);
+        }
+        if vars < v {
+            return Checked::At(i);
+        }
+        let atom = i + 2;
+        if 2 * vars + 1 < field::pair_at(proof, atom) {
+            return Checked::At(atom);
+        }
+        i += 4;
+    }
+    Checked::Fine
+}
+
+// Reason 11 over a list of clause numbers: one that is not live, or not above the one before it.
+pub fn check_numbers(proof: &[u8], e: Extent, words: &[u32]) -> Checked
+    requires { ⌜ (e .start + e .size ≤ length (now proof)) × (e .size % 2 ≡ 0) ⌝ }
+    ensures { λ r. ⌜ ((f : File) → check-numbers (live f (now (proof .entry)) (now (words .entry))) 0 (e .start) (codes (payload (now (proof .entry)) e)) ≡ checkedBy NumberNotLive r) ⌝ }
+{
+    let end = e.start + e.size;
+    let mut i = e.start;
+    let mut last = 0;
+    while i < end {
+        let n = field::pair_at(proof, i);
+        if n <= last {
+            return Checked::At(i);
+        }
+        if words.len() <= n {
+            return Checked::At(i);
+        }
+        if words[n] == 0 {
+            return Checked::At(i);
+        }
+        last = n;
+        i += 2;
+    }
+    Checked::Fine
+}
+
+// Clears the listed numbers: their clauses are no longer live.
+pub fn remove_numbers(proof: &[u8], e: Extent, words: &mut [u32])
+    requires { ⌜ (e .start + e .size ≤ length (now proof)) × (e .size % 2 ≡ 0) ⌝ }
+    ensures { λ _. ⌜ Removed (now (proof .entry)) (codes (payload (now (proof .entry)) e)) (now (words .entry)) (now (words .exit)) ⌝ }
+{
+    let end = e.start + e.size;
+    let mut i = e.start;
+    while i < end {
+        let n = field::pair_at(proof, i);
+        if n < words.len() {
+            lookup::remove(words, n);
+        }
+        i += 2;
+    }
 }
