@@ -1,3 +1,5 @@
+pub mod Part
 pub mod Fields
 pub mod Mappings
 pub mod Numbers
+pub mod Step

@@ -1,29 +1,22 @@
 -- The loop over a witness's mappings: what is left of the check from a place on, and one law for each way a turn goes.
 -- Assumes nothing.
-use Prim.Native.Nat.{ℕ, _+_, _*_, _-_, _≤_, _<_}
-use mathlib.Core.Path.{_≡_, refl, sym, ap, _∙_}
+use Prim.Native.Nat.{ℕ, _+_, _*_, _≤_, _<_}
+use mathlib.Core.Path.{_≡_, sym, _∙_}
 use mathlib.Core.Bool.{true, false}
-use mathlib.Core.List.{List, [], _∷_}
+use mathlib.Core.List.{_∷_}
 use native.Mathlib.Omega.{arith}
 use lib.Dec.{leb}
-use lib.ListN.{length, take, drop}
+use lib.ListN.{length}
 use Rattle.paper.specs.declared.Reason.the-variants.{ProofCode}
 use Rattle.paper.specs.declared.Extent.{Extent}
-use Rattle.paper.specs.Files.{File, Read, ok, bad, _>>_, need, two, payload, past, codes, mappings}
+use Rattle.paper.specs.Files.{File, Read, _>>_, need, two, payload, codes, mappings}
 use Rattle.paper.specs.Refusals.{between, check-mappings}
 use Rattle.paper.proofs.Lists.{leb-within, leb-beyond}
-use Rattle.paper.proofs.Scan.{part-end, part-next, payload-part}
+use Rattle.paper.proofs.Scan.{part-end, part-next}
 use Rattle.steps.specs.declared.Checked.the-variants.{Fine, At}
 use Rattle.steps.specs.Steps.{checkedBy}
+use Rattle.steps.proofs.Part.{upto, payload-upto}
 use Rattle.steps.proofs.Fields.{below, not-below}
-
--- the bytes of a file from i to e
-abbrev pub upto : File → ℕ → ℕ → List ℕ
-upto f i e = take (e - i) (drop i f)
-
-pub payload-upto : (f : File) (x : Extent) → upto f (x .start) (x .start + x .size) ≡ payload f x
-unfolding past
-payload-upto f x = sym (payload-part f x)
 
 -- the check of the mappings from i to e
 abbrev pub left : ℕ → File → ℕ → ℕ → Read (Unit {0})

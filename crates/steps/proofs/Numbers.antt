@@ -1,28 +1,29 @@
 -- The loops over a list of clause numbers: what is left of the check and of the clearing from a place on, and one law for each way a
 -- turn goes. The clause table cleared of a list of numbers.
 -- Assumes nothing.
-use Prim.Native.Nat.{ℕ, zero, suc, _+_, _-_, _≤_, _<_}
+use Prim.Native.Nat.{ℕ, zero, suc, _+_, _≤_, _<_}
 use mathlib.Core.Path.{_≡_, refl, sym, ap, _∙_}
 use mathlib.Core.Logic.{_≢_}
-use mathlib.Core.Bool.{Bool, true, false, not, _&&_}
-use mathlib.Core.List.{List, [], _∷_}
+use mathlib.Core.Bool.{Bool, true, false, _&&_}
+use mathlib.Core.List.{List, [], _∷_, _++_}
 use native.Mathlib.Omega.{arith}
-use lib.Dec.{eqb, ltb}
+use lib.Dec.{ltb}
 use lib.ListN.{length, getD, set, length-set, List·getD-eq-default}
-use lib.Seq.{set-out}
+use Rattle.paper.specs.declared.Reason.{Reason}
 use Rattle.paper.specs.declared.Reason.the-variants.{NumberNotLive}
 use Rattle.paper.specs.declared.Extent.{Extent}
 use Rattle.paper.specs.Atoms.{Formula}
-use Rattle.paper.specs.Files.{File, Read, ok, bad, _>>_, need, two, payload, codes}
-use Rattle.paper.specs.Conditions.{is-in, without}
+use Rattle.paper.specs.Files.{File, Read, ok, _>>_, need, two, payload, field, codes}
+use Rattle.paper.specs.Conditions.{is-in, without, after}
 use Rattle.paper.specs.Refusals.{is-live, check-numbers}
 use Rattle.paper.proofs.Lists.{eqb-same, eqb-other, leb-within, leb-beyond}
 use Rattle.paper.proofs.Scan.{part-end, part-next}
+use Rattle.lookup.specs.Clause.{proofWord}
 use Rattle.lookup.specs.Live.{live}
-use Rattle.lookup.proofs.Live.{is-live-word, live-removed, without-more}
+use Rattle.lookup.proofs.Live.{is-live-word, live-removed, without-more, proof-entered}
 use Rattle.steps.specs.declared.Checked.the-variants.{Fine, At}
 use Rattle.steps.specs.Steps.{checkedBy, removed, Removed}
-use Rattle.steps.proofs.Mappings.{upto, payload-upto}
+use Rattle.steps.proofs.Part.{upto, payload-upto}
 
 -- 1. The check of the numbers from i to e, that come after the number last.
 abbrev pub left : Formula → ℕ → File → ℕ → ℕ → Read (Unit {0})
@@ -119,9 +120,6 @@ module _ (p : File) (ws : List ℕ) (i e : ℕ) (h : i + 1 < e) (g : e ≤ lengt
   unfolding removed
   number-cleared us q = rw (part-next p i e h g, q, en)
 
-  pub number-skipped : length ws ≤ n → cleared ws p i e ≡ cleared ws p (i + 2) e
-  number-skipped k = number-cleared ws (sym (set-out ws n 0 k))
-
 pub all-cleared : (ws : List ℕ) (p : File) (i e : ℕ) → e ≤ i → cleared ws p i e ≡ ws
 unfolding removed
 all-cleared ws p i e h = rw (part-end p i e (omega arith))
@@ -131,3 +129,19 @@ pub removed-decided : (ws₀ ws : List ℕ) (p : File) (i : ℕ) (x : Extent) �
     → cleared ws p i (x .start + x .size) ≡ cleared ws₀ p (x .start) (x .start + x .size) → Removed p (codes (payload p x)) ws₀ ws
 removed-decided ws₀ ws p i x h inv =
     rw (sym (all-cleared ws p i (x .start + x .size) h) ∙ inv, payload-upto p x) (removed-all p (codes (payload p x)) ws₀)
+
+-- 3. The table after a step.
+module _ {p : File} {ns ws us : List ℕ} (r : Removed p ns ws us) where
+  -- where every word is 0 from n on, it still is
+  pub above-kept : (n : ℕ) → ((j : ℕ) → n ≤ j → getD ws j 0 ≡ 0) → (j : ℕ) → n ≤ j → getD us j 0 ≡ 0
+  above-kept n above j h = r .none-new j (above j h)
+
+  -- "After a step RUP, SR or WSR, C is live and the MODULO clauses aren't."
+  pub live-after : (why : Reason) (tag : ℕ) (allowed : ℕ → Bool) (f : File) (at : ℕ) (e : Extent) → at < 1048576 → (n : ℕ)
+      → ((j : ℕ) → n ≤ j → getD ws j 0 ≡ 0) → n < length ws → field why tag allowed p at ≡ ok e
+      → live f p (set us n (proofWord at)) ≡ after ns n (codes (payload p e)) (live f p ws)
+  unfolding after
+  live-after why tag allowed f at e small n above h q =
+      let long = r .same-length in
+      proof-entered why tag allowed f p at e small us n (above-kept n above) (omega arith) q
+      ∙ ap (λ (G : Formula). G ++ ((n, codes (payload p e)) ∷ [])) (r .live-now f)

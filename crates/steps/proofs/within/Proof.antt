@@ -1,5 +1,4 @@
 -- `within` is the paper's test of a range.
-use borrow.Author.Needs.{needs}
 use Rattle.steps.proofs.Fields.{below, not-below}
 use Rattle.steps.proofs.within.Statement.{statement}
 use Rattle.steps.proofs.within.Tie as tie
