@@ -1,0 +1,2 @@
+-- Literals assumed in the table of the variables.
+pub mod Loading
