@@ -215,7 +215,32 @@ module _ (vars : ℕ) (t₀ : List ℕ) (long : vars * 2 < length t₀) where
       go l (inl m) = m
       go l (inr m) = elim m [ ]
 
--- 4. The images of D's literals: B is what was opposed before them.
+-- 4. The images of D's literals.
+-- whatever the answer, the table differs in values of the variables 1 to vars alone
+module _ (vars : ℕ) (t₀ : List ℕ) (long : vars * 2 < length t₀) (inward : Inward vars t₀) where
+  pub imaged-within : (D : Clause) → Codes vars D → (t : List ℕ) → Within vars t₀ t → Within vars t₀ (imaged t D .table)
+  imaged-within [] codes t w = rw imaged-end w
+  imaged-within (l ∷ D) codes t w =
+      go (imaged-within D (λ k m. codes k (List·Memᴰ·tail m))) (ℕ-discrete (imageOf t l) 0) (ℕ-discrete (imageOf t l) 1) (trueAt t (imageOf t l)) refl
+    where
+      here : (2 ≤ l) × (l ≤ 2 * vars + 1)
+      here = codes l (List·Memᴰ·head refl)
+
+      e : imageOf t l ≡ imageOf t₀ l
+      e = kept-image-of (w .kept) l
+
+      put-here : imageOf t l ≢ 0 → imageOf t l ≢ 1 → Within vars t₀ (makeTrue t (complement (imageOf t l)))
+      put-here n m =
+          let r = complement-range vars (imageOf t l) (omega arith) (omega (arith, e, inward l (here .0) (here .1))) in
+          within-put vars t₀ t (complement (imageOf t l)) (r .0) (r .1) long w
+
+      go : ((u : List ℕ) → Within vars t₀ u → Within vars t₀ (imaged u D .table)) → Dec (imageOf t l ≡ 0) → Dec (imageOf t l ≡ 1) → (b : Bool)
+          → trueAt t (imageOf t l) ≡ b → Within vars t₀ (imaged t (l ∷ D) .table)
+      go rec (yes z) d b q = rw (imaged-true t l D z) w
+      go rec (no n) (yes z) b q = rw (imaged-false t l D z) (rec t w)
+      go rec (no n) (no m) true q = rw (imaged-already t l D n m q) w
+      go rec (no n) (no m) false q = rw (imaged-next t l D n m q) (rec (makeTrue t (complement (imageOf t l))) (put-here n m))
+
 under-none : (s : Witness) → under s [] ≡ []
 unfolding under
 under-none s = refl
@@ -290,12 +315,12 @@ passing-more s l D A B out (opposed-image m ne q) = opposed-image (List·Memᴰ�
 module _ (vars : ℕ) (t₀ : List ℕ) (long : vars * 2 < length t₀) (s : Witness) where
   -- what an answer says of D, after B
   abbrev pub Says : Clause → Clause → List ℕ → Assumed → Type 0
-  Says D B t Passes = Within vars t₀ t × Passing s D B
+  Says D B t Passes = Passing s D B
   Says D B t Open = Opposes vars t₀ t (under s D ++ B) × ((l : ℕ) → l ∈ D → image s l ≢ 0)
 
   says-more : (l : ℕ) (D A B : Clause) → image s l ≢ 0 → ((k : ℕ) → k ∈ under s D ++ A → k ∈ under s (l ∷ D) ++ B)
       → ((k : ℕ) → k ∈ under s (l ∷ D) ++ B → k ∈ under s D ++ A) → (t : List ℕ) (r : Assumed) → Says D A t r → Says (l ∷ D) B t r
-  says-more l D A B n out in′ t Passes (w, p) = (w, passing-more s l D A B out p)
+  says-more l D A B n out in′ t Passes p = passing-more s l D A B out p
   says-more l D A B n out in′ t Open (o, f) = (opposes-same vars t₀ t (under s D ++ A) (under s (l ∷ D) ++ B) out in′ o, all)
     where
       all : (k : ℕ) → k ∈ l ∷ D → image s k ≢ 0
@@ -325,14 +350,14 @@ module _ (vars : ℕ) (t₀ : List ℕ) (long : vars * 2 < length t₀) (s : Wit
 
         go : ((u : List ℕ) (A : Clause) → Opposes vars t₀ u A → Says D A (imaged u D .table) (imaged u D .answer)) → Dec (imageOf t l ≡ 0)
             → Dec (imageOf t l ≡ 1) → (b : Bool) → trueAt t (imageOf t l) ≡ b → Says (l ∷ D) B (imaged t (l ∷ D) .table) (imaged t (l ∷ D) .answer)
-        go rec (yes z) d b q = by (record { answer = Passes; table = t }) (imaged-true t l D z) (o .within, true-image (List·Memᴰ·head refl) (sym e ∙ z))
+        go rec (yes z) d b q = by (record { answer = Passes; table = t }) (imaged-true t l D z) (true-image (List·Memᴰ·head refl) (sym e ∙ z))
         go rec (no n) (yes z) b q =
             by (imaged t D) (imaged-false t l D z)
             (says-more l D B B (λ p. n (e ∙ p)) (under-out-false s l D B (sym e ∙ z)) (under-in-false s l D B (sym e ∙ z)) (imaged t D .table) (imaged t D .answer)
             (rec t B o))
         go rec (no n) (no m) true q =
             by (record { answer = Passes; table = t }) (imaged-already t l D n m q)
-            (o .within, opposed-image (List·Memᴰ·head refl) (λ p. m (e ∙ p))
+            (opposed-image (List·Memᴰ·head refl) (λ p. m (e ∙ p))
             (Memᴰ·append-right (under s (l ∷ D)) (opposed-true vars t₀ t B o (image s l) (sym (ap (trueAt t) e) ∙ q))))
         go rec (no n) (no m) false q =
             let n′ : image s l ≢ 0 = λ p. n (e ∙ p) in
@@ -347,15 +372,8 @@ module _ (vars : ℕ) (t₀ : List ℕ) (long : vars * 2 < length t₀) (s : Wit
       said : (r : Assumed) → imaged t D .answer ≡ r → Says D C (imaged t D .table) r
       said r e = subst (Says D C (imaged t D .table)) e (imaged-says D codes t C o)
 
-      pub images-within : Within vars t₀ (imaged t D .table)
-      images-within = go (imaged t D .answer) refl
-        where
-          go : (r : Assumed) → imaged t D .answer ≡ r → Within vars t₀ (imaged t D .table)
-          go Passes e = (said Passes e) .0
-          go Open e = (said Open e) .0 .within
-
       pub images-pass : imaged t D .answer ≡ Passes → (Trivialises s D) ⊎ ((l : ℕ) × (l ∈ under s D) × (complement l ∈ C))
-      images-pass e = go ((said Passes e) .1)
+      images-pass e = go (said Passes e)
         where
           side : (l : ℕ) → l ∈ D → image s l ≢ 1 → (complement (image s l) ∈ under s D) ⊎ (complement (image s l) ∈ C)
               → (Trivialises s D) ⊎ ((k : ℕ) × (k ∈ under s D) × (complement k ∈ C))

@@ -51,11 +51,10 @@ loop-again c =
     let l = p .before .before .before in
     let a = l .before .before .before .args in
     let q = d .make-true .ensures ∙ ap (makeTrue (l .loop .t)) (d .before .opposite .ensures .0 ∙ ap complement (p .pair-at .ensures .0)) in
-    let more = codes (drop (l .loop .i + 2) (a .clause .now)) in
-    (
+    let more = codes (drop (l .loop .i + 2) (a .clause .now)) in (
       omega arith,
       going-next assumed _ _ _ _ (l .loop .inv .1) (p .before .before .loop-test .taken) _ (d .make-true .kept .0)
-      (assumed-next (l .loop .t) _ more ∙ ap (λ (u : List ℕ). assumed u more) (sym q)),
+          (assumed-next (l .loop .t) _ more ∙ ap (λ (u : List ℕ). assumed u more) (sym q)),
     )
 
 same-length : tie.Need-same-length Inv-loop μ-loop

@@ -91,15 +91,14 @@ loop-again c =
     let a = l .before .before .before .before .args in
     let e = d .image-of .ensures .0 ∙ ap (imageOf (l .before .loop .t)) (d .before .pair-at .ensures .0) in
     let k = l .before .loop .inv .1 in
-    let h = l .loop-test .taken in
-    (
+    let h = l .loop-test .taken in (
       omega arith,
       ⊎-elim {C = Going imaged (a .clause .now) (a .t .now) (c .if2 .t) (l .before .loop .i + 2)}
-      (λ w.
+          (λ w.
           let u = w .9 ∙ w .6 .ensures ∙ ap (makeTrue (l .before .loop .t)) (w .5 .ensures .0) in
           image-next _ _ _ _ k h _ e (c .before .if1 .left) (w .0 .taken) (sym (w .2 .ensures) ∙ w .3 .left) _ u)
-      (λ w. subst (λ (u : List ℕ). Going imaged (a .clause .now) (a .t .now) u (l .before .loop .i + 2)) (sym (w .1)) (image-false _ _ _ _ k h _ e (w .0 .left)))
-      (c .if2 .came),
+          (λ w. subst (λ (u : List ℕ). Going imaged (a .clause .now) (a .t .now) u (l .before .loop .i + 2)) (sym (w .1)) (image-false _ _ _ _ k h _ e (w .0 .left)))
+          (c .if2 .came),
     )
 
 same-length-3 : tie.Need-same-length-3 Inv-loop μ-loop

@@ -1,0 +1,52 @@
+-- The answer of `trivialises`, and the table after it.
+-- Assumes nothing.
+use Prim.Native.Nat.{ℕ, _+_, _*_, _≤_, _<_}
+use mathlib.Core.Path.{_≡_, refl, sym}
+use mathlib.Core.Logic.{_⊎_, inl, inr}
+use mathlib.Core.Bool.{true, false, true≢false, false≢true}
+use mathlib.Core.List.{List, []}
+use native.Mathlib.Omega.{arith}
+use lib.ListN.{length}
+use Rattle.paper.specs.Atoms.{complement, _∈_, Clause, Witness}
+use Rattle.paper.specs.Conditions.{image, Trivialises, under}
+use Rattle.paper.proofs.Valid.{Codes}
+use Rattle.table.specs.Table.{imageOf, clearValues}
+use Rattle.loading.specs.declared.Assumed.the-variants.{Passes, Open}
+use Rattle.loading.specs.Loading.{Storable, imaged, Ready, Inward, Images, Decides}
+use Rattle.loading.proofs.Opposed.{Opposes, opposes-start, within-start, within-back, imaged-within, images-pass, images-not-trivial}
+
+-- codes of the variables fit the table
+pub codes-storable : (vars : ℕ) (C : Clause) → vars ≤ 4095 → Codes vars C → Storable C
+codes-storable vars C h codes l m =
+    let r = codes l m in
+    omega arith
+
+module _ (vars : ℕ) (t : List ℕ) (ready : Ready vars t) (inward : Inward vars t) (D : Clause) (codes : Codes vars D) where
+  long : vars * 2 < length t
+  long =
+      let h = ready .small in
+      let k = ready .long in
+      omega arith
+
+  pub trivial-back : clearValues vars (imaged t D .table) ≡ t
+  trivial-back = within-back vars t (imaged t D .table) (ready .unset) (imaged-within vars t long inward D codes t (within-start vars t (ready .unset)))
+
+  module _ (s : Witness) (images : Images t s) where
+    near : (l : ℕ) → 2 ≤ l → l ≤ 2 * vars + 1 → imageOf t l ≡ image s l
+    near l h k =
+        let small = ready .small in
+        images l h (omega arith)
+
+    pub trivial-yes : Passes ≡ imaged t D .answer → Decides true (Trivialises s D)
+    trivial-yes e = record { yes = λ _. go (images-pass vars t long s near inward D codes [] t (opposes-start vars t (ready .unset)) (sym e)); no = λ q. absurd (true≢false q) }
+      where
+        go : (Trivialises s D) ⊎ ((l : ℕ) × (l ∈ under s D) × (complement l ∈ [])) → Trivialises s D
+        go (inl p) = p
+        go (inr p) = elim (p .2) [ ]
+
+    pub trivial-no : Open ≡ imaged t D .answer → Decides false (Trivialises s D)
+    trivial-no e =
+        record {
+          yes = λ q. absurd (false≢true q);
+          no = λ _. images-not-trivial vars t long s near inward D codes [] t (opposes-start vars t (ready .unset)) (sym e);
+        }
