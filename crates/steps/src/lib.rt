@@ -136,12 +136,12 @@ pub fn remove_numbers(proof: &[u8], e: Extent, words: &mut [u32])
     ensures { λ _. ⌜ Removed (now (proof .entry)) (codes (payload (now (proof .entry)) e)) (now (words .entry)) (now (words .exit)) ⌝ }
 {
     let end = e.start + e.size;
-    let mut i = e.start;
-    while i < end {
-        let n = field::pair_at(proof, i);
+    let mut at = e.start;
+    while at < end {
+        let n = field::pair_at(proof, at);
         if n < words.len() {
             lookup::remove(words, n);
         }
-        i += 2;
+        at += 2;
     }
 }

@@ -15,11 +15,11 @@ use Rattle.field.proofs.pair_at.Reads as pair-at-reads
 use Rattle.lookup.proofs.remove.Reads as remove-reads
 
 abbrev Inv-loop : tie.InvT-loop
-Inv-loop proof words₀ end i₀ words i =
-    (i ≤ end) × ((end - i) % 2 ≡ 0) × (length words ≡ length words₀) × (cleared words proof i end ≡ cleared words₀ proof i₀ end)
+Inv-loop proof words₀ end at₀ words at =
+    (at ≤ end) × ((end - at) % 2 ≡ 0) × (length words ≡ length words₀) × (cleared words proof at end ≡ cleared words₀ proof at₀ end)
 
 abbrev μ-loop : tie.MeasureT-loop
-μ-loop proof words₀ end i₀ words i = end - i
+μ-loop proof words₀ end at₀ words at = end - at
 
 abbrev In-loop : Type 0
 In-loop = lts.In-loop (pair-at-reads.Asked, pair-at-reads.Learnt, remove-reads.Asked, remove-reads.Learnt) reads.Pre reads.Post Inv-loop μ-loop
@@ -31,7 +31,7 @@ abbrev end : In-loop → ℕ
 end d = start d .args .e .start + start d .args .e .size
 
 -- a whole number is left, in the proof
-whole-number : (d : In-loop) → d .before .loop .i + 1 < end d
+whole-number : (d : In-loop) → d .before .loop .at + 1 < end d
 whole-number d = let q = d .before .loop .inv in omega (arith, q .1, start d .pre .1)
 
 in-proof : (d : In-loop) → end d ≤ length (start d .args .proof .now)
@@ -49,8 +49,8 @@ pair-at-requires c κs = search needs
 remove-requires : tie.Need-remove-requires Inv-loop μ-loop
 remove-requires c κs = search needs
 
-add-i : tie.Need-add-i Inv-loop μ-loop
-add-i c = search needs
+add-at : tie.Need-add-at Inv-loop μ-loop
+add-at c = search needs
 
 loop-less : tie.Need-loop-less Inv-loop μ-loop
 loop-less c = search needs
@@ -84,7 +84,7 @@ remove-numbers-spec =
     loop-holds
     pair-at-requires
     remove-requires
-    add-i
+    add-at
     loop-less
     loop-again
     same-length
