@@ -48,7 +48,8 @@ pair-at-requires c κs = search needs
 returns : tie.Need-returns Inv-loop μ-loop
 returns c =
     let d : In-loop = c .before .before in
-    λ f. decided _ _ _ _ _ _ (d .before .loop .inv .2 f) (not-above _ _ _ _ _ (whole-number d) (in-proof d) _ (c .before .pair-at .ensures .0) f (c .if1 .taken))
+    let low : c .before .pair-at .result ≤ d .before .loop .last = omega arith in
+    λ f. decided _ _ _ _ _ _ (d .before .loop .inv .2 f) (not-above _ _ _ _ _ (whole-number d) (in-proof d) _ (c .before .pair-at .ensures .0) f low)
 
 returns-2 : tie.Need-returns-2 Inv-loop μ-loop
 returns-2 c =
