@@ -199,10 +199,10 @@ read-fields-past f at =
     go c w n h k j true = (omega (arith, h .starts), h .ends)
     go c w n h k j false = (omega (arith, h .starts), j .1)
 
-abbrev Ranged : ℕ → Witness → Type 0
+abbrev pub Ranged : ℕ → Witness → Type 0
 Ranged vars s = (v a : ℕ) → _∈_ {A = ℕ × ℕ} (v, a) s → (1 ≤ v) × (v ≤ vars) × (a ≤ 2 * vars + 1)
 
-check-mappings-then : (vars p : ℕ) (s : Witness) → Then (λ _. Ranged vars s) (check-mappings vars p s)
+pub check-mappings-then : (vars p : ℕ) (s : Witness) → Then (λ _. Ranged vars s) (check-mappings vars p s)
 unfolding check-mappings
 check-mappings-then vars p [] = λ v a m. elim m [ ]
 check-mappings-then vars p (x ∷ s) =

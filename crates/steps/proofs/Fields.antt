@@ -94,6 +94,7 @@ lies-if false tag allowed f at e z h q = rw (← x) (record { starts = omega ari
 pub record Lie (f : File) (at : ℕ) (x : Fields) : Type 0 where
   pub tag-from : 0x11 ≤ getD f at 0
   pub tag-to : getD f at 0 ≤ 0x14
+  pub clause-starts : at + 3 ≤ x .clause .start
   pub clause-within : x .clause .start + x .clause .size ≤ length f
   pub witness-within : x .witness .start + x .witness .size ≤ length f
   pub numbers-within : x .numbers .start + x .numbers .size ≤ length f
@@ -158,9 +159,12 @@ module _ (f : File) (at : ℕ) where
               let other : getD f at 0 ≢ 0x13 = omega arith in
               let none : n .size ≡ 0 = modulo-lies .unasked (eqb-other (getD f at 0) 0x13 other) in
               let s = clause-lies .start in
+              let u = witness-lies .starts in
+              let v = modulo-lies .starts in
               record {
                 tag-from = r .0;
                 tag-to = r .1;
+                clause-starts = omega arith;
                 clause-within = modulo-lies .within;
                 witness-within = modulo-lies .within;
                 numbers-within = clause-lies .within;
@@ -186,6 +190,7 @@ module _ (f : File) (at : ℕ) where
               record {
                 tag-from = r .0;
                 tag-to = r .1;
+                clause-starts = omega arith;
                 clause-within = clause-lies .within;
                 witness-within = witness-lies .within;
                 numbers-within = modulo-lies .within;

@@ -1,0 +1,174 @@
+use borrow.Author.Needs.{needs}
+use Rattle.judging.proofs.judge_fields.Statement.{statement}
+use Rattle.judging.proofs.judge_fields.Tie as tie
+use Rattle.judging.proofs.judge_fields.Reads as reads
+use Rattle.judging.proofs.judge_fields.Lts as lts
+use Rattle.clauses.proofs.check_clause.Reads as check-clause-reads
+use Rattle.judging.proofs.judge_loaded.Reads as judge-loaded-reads
+use Rattle.judging.proofs.part.Reads as part-reads
+use Rattle.judging.proofs.stopped.Reads as stopped-reads
+use Rattle.mapping.proofs.load_witness.Reads as load-witness-reads
+use Rattle.mapping.proofs.unload_witness.Reads as unload-witness-reads
+use Rattle.steps.proofs.check_mappings.Reads as check-mappings-reads
+
+-- src/lib.rt:103:11
+check-clause-requires : tie.Need-check-clause-requires
+check-clause-requires c κs = ?
+
+-- src/lib.rt:104:28
+enum-known-place : tie.Need-enum-known-place
+enum-known-place c = search needs
+
+-- src/lib.rt:105:13
+stopped-requires : tie.Need-stopped-requires
+stopped-requires c κs = search needs
+
+-- src/lib.rt:105:13
+same-length : tie.Need-same-length
+same-length c = search needs
+
+-- src/lib.rt:105:13
+returns : tie.Need-returns
+returns c = ?
+
+-- src/lib.rt:107:28
+enum-known-place-2 : tie.Need-enum-known-place-2
+enum-known-place-2 c = search needs
+
+-- src/lib.rt:108:13
+stopped-requires-2 : tie.Need-stopped-requires-2
+stopped-requires-2 c κs = search needs
+
+-- src/lib.rt:108:13
+same-length-2 : tie.Need-same-length-2
+same-length-2 c = search needs
+
+-- src/lib.rt:108:13
+returns-2 : tie.Need-returns-2
+returns-2 c = ?
+
+-- src/lib.rt:111:28
+enum-told : tie.Need-enum-told
+enum-told c = search needs
+
+-- src/lib.rt:111:13
+stopped-requires-3 : tie.Need-stopped-requires-3
+stopped-requires-3 c κs = search needs
+
+-- src/lib.rt:111:13
+same-length-3 : tie.Need-same-length-3
+same-length-3 c = search needs
+
+-- src/lib.rt:111:13
+returns-3 : tie.Need-returns-3
+returns-3 c = ?
+
+enum-told-2 : tie.Need-enum-told-2
+enum-told-2 c = search needs
+
+-- src/lib.rt:116:33
+check-mappings-requires : tie.Need-check-mappings-requires
+check-mappings-requires c κs = ?
+
+-- src/lib.rt:116:24
+enum-known-place-3 : tie.Need-enum-known-place-3
+enum-known-place-3 c = search needs
+
+-- src/lib.rt:117:9
+stopped-requires-4 : tie.Need-stopped-requires-4
+stopped-requires-4 c κs = search needs
+
+-- src/lib.rt:117:9
+same-length-4 : tie.Need-same-length-4
+same-length-4 c = search needs
+
+-- src/lib.rt:117:9
+returns-4 : tie.Need-returns-4
+returns-4 c = ?
+
+enum-told-3 : tie.Need-enum-told-3
+enum-told-3 c = search needs
+
+-- src/lib.rt:119:9
+part-requires : tie.Need-part-requires
+part-requires c κs = ?
+
+-- src/lib.rt:120:31
+load-witness-requires : tie.Need-load-witness-requires
+load-witness-requires c κs = ?
+
+-- src/lib.rt:120:26
+enum-known-i : tie.Need-enum-known-i
+enum-known-i c = search needs
+
+-- src/lib.rt:121:44
+add-stopped : tie.Need-add-stopped
+add-stopped c = ?
+
+-- src/lib.rt:121:9
+stopped-requires-5 : tie.Need-stopped-requires-5
+stopped-requires-5 c κs = search needs
+
+-- src/lib.rt:121:9
+same-length-5 : tie.Need-same-length-5
+same-length-5 c = search needs
+
+-- src/lib.rt:121:9
+returns-5 : tie.Need-returns-5
+returns-5 c = ?
+
+enum-told-4 : tie.Need-enum-told-4
+enum-told-4 c = search needs
+
+-- src/lib.rt:123:9
+judge-loaded-requires : tie.Need-judge-loaded-requires
+judge-loaded-requires c κs = ?
+
+-- src/lib.rt:124:5
+unload-witness-requires : tie.Need-unload-witness-requires
+unload-witness-requires c κs = ?
+
+-- src/lib.rt:88:1
+same-length-6 : tie.Need-same-length-6
+same-length-6 c = search needs
+
+-- src/lib.rt:88:1
+returns-6 : tie.Need-returns-6
+returns-6 c = ?
+
+pub judge-fields-spec : {M : Type 1} → statement M
+judge-fields-spec =
+    tie.close
+    (tie.spec
+    check-clause-requires
+    enum-known-place
+    stopped-requires
+    same-length
+    returns
+    enum-known-place-2
+    stopped-requires-2
+    same-length-2
+    returns-2
+    enum-told
+    stopped-requires-3
+    same-length-3
+    returns-3
+    enum-told-2
+    check-mappings-requires
+    enum-known-place-3
+    stopped-requires-4
+    same-length-4
+    returns-4
+    enum-told-3
+    part-requires
+    load-witness-requires
+    enum-known-i
+    add-stopped
+    stopped-requires-5
+    same-length-5
+    returns-5
+    enum-told-4
+    judge-loaded-requires
+    unload-witness-requires
+    same-length-6
+    returns-6)

@@ -1,0 +1,98 @@
+use borrow.Author.Needs.{needs}
+use Rattle.judging.proofs.judge_loaded.Statement.{statement}
+use Rattle.judging.proofs.judge_loaded.Tie as tie
+use Rattle.judging.proofs.judge_loaded.Reads as reads
+use Rattle.judging.proofs.judge_loaded.Lts as lts
+use Rattle.judging.proofs.judge_new.Reads as judge-new-reads
+use Rattle.judging.proofs.part.Reads as part-reads
+use Rattle.judging.proofs.stopped.Reads as stopped-reads
+use Rattle.steps.proofs.check_numbers.Reads as check-numbers-reads
+
+-- src/lib.rt:72:33
+check-numbers-requires : tie.Need-check-numbers-requires
+check-numbers-requires c κs = ?
+
+-- src/lib.rt:72:24
+enum-known-place : tie.Need-enum-known-place
+enum-known-place c = search needs
+
+-- src/lib.rt:73:9
+stopped-requires : tie.Need-stopped-requires
+stopped-requires c κs = search needs
+
+-- src/lib.rt:73:9
+returns : tie.Need-returns
+returns c = ?
+
+enum-told : tie.Need-enum-told
+enum-told c = search needs
+
+-- src/lib.rt:75:15
+shared-slice-read-tag : tie.Need-shared-slice-read-tag
+shared-slice-read-tag c = search needs
+
+-- src/lib.rt:77:9
+returns-2 : tie.Need-returns-2
+returns-2 c = ?
+
+-- src/lib.rt:80:9
+stopped-requires-2 : tie.Need-stopped-requires-2
+stopped-requires-2 c κs = search needs
+
+-- src/lib.rt:80:9
+returns-3 : tie.Need-returns-3
+returns-3 c = ?
+
+-- src/lib.rt:83:16
+sub-used : tie.Need-sub-used
+sub-used c = search needs
+
+-- src/lib.rt:83:16
+part-used-start : tie.Need-part-used-start
+part-used-start c = search needs
+
+-- src/lib.rt:83:16
+part-used-end : tie.Need-part-used-end
+part-used-end c = search needs
+
+-- src/lib.rt:84:42
+part-requires : tie.Need-part-requires
+part-requires c κs = ?
+
+-- src/lib.rt:84:58
+part-requires-2 : tie.Need-part-requires-2
+part-requires-2 c κs = ?
+
+-- src/lib.rt:84:5
+judge-new-requires : tie.Need-judge-new-requires
+judge-new-requires c κs = ?
+
+-- src/lib.rt:57:1
+same-length : tie.Need-same-length
+same-length c = search needs
+
+-- src/lib.rt:57:1
+returns-4 : tie.Need-returns-4
+returns-4 c = ?
+
+pub judge-loaded-spec : {M : Type 1} → statement M
+judge-loaded-spec =
+    tie.close
+    (tie.spec
+    check-numbers-requires
+    enum-known-place
+    stopped-requires
+    returns
+    enum-told
+    shared-slice-read-tag
+    returns-2
+    stopped-requires-2
+    returns-3
+    sub-used
+    part-used-start
+    part-used-end
+    part-requires
+    part-requires-2
+    judge-new-requires
+    same-length
+    returns-4)
