@@ -3,7 +3,7 @@
 use Prim.Native.Nat.{ℕ, _+_, _%_, _≤_, _<_}
 use mathlib.Core.Path.{_≡_, refl, subst}
 use mathlib.Core.Logic.{_≢_}
-use mathlib.Core.Bool.{Bool, true, false, true≢false}
+use mathlib.Core.Bool.{Bool, true, false, _&&_, true≢false}
 use native.Mathlib.Omega.{arith}
 use lib.Dec.{eqb, leb}
 use lib.ListN.{length, getD}
@@ -13,7 +13,7 @@ use Rattle.paper.specs.declared.Extent.{Extent}
 use Rattle.paper.specs.declared.Fields.{Fields}
 use Rattle.paper.specs.Files.{File, Read, ok, bad, _>>=_, _>>_, need, two, past, field, even, fours}
 use Rattle.paper.specs.Refusals.{between, field-if, read-fields}
-use Rattle.paper.proofs.Lists.{eqb-yes, eqb-no, eqb-same, eqb-other, leb-within, leb-beyond}
+use Rattle.paper.proofs.Lists.{eqb-yes, eqb-no, eqb-same, eqb-other, leb-yes, leb-within, leb-beyond}
 use Rattle.paper.proofs.Reading.{Then, then-bind, then-seq, need-then, between-yes}
 use Rattle.field.specs.declared.Expected.{Expected}
 use Rattle.field.specs.declared.Expected.the-variants.{Found, Wrong}
@@ -22,7 +22,7 @@ use Rattle.field.proofs.Laws.{found, wrong, Stands, stands}
 use Rattle.steps.specs.declared.FieldsRead.the-variants.{Whole, Bad}
 use Rattle.steps.specs.Steps.{fieldsOf}
 
--- the test of a range, by the tests that its code makes
+-- 1. The code's tests: of a range, and of a field that the step's tag may ask for.
 pub below : (low high x : ℕ) → x < low → false ≡ between low high x
 unfolding between
 below low high x h = rw (leb-beyond low x h)
@@ -31,7 +31,6 @@ pub not-below : (low high x : ℕ) → low ≤ x → leb x high ≡ between low 
 unfolding between
 not-below low high x h = rw (leb-within low x h)
 
--- a field that the step's tag may ask for: found, or refused at its place
 module _ (b : Bool) (tag : ℕ) (allowed : ℕ → Bool) (f : File) (at : ℕ) where
   pub asked : b ≡ true → (r : Expected) → r ≡ expectedOf (field ProofField tag allowed f at) → r ≡ expectedOf (field-if b tag allowed f at)
   unfolding field-if
@@ -45,6 +44,7 @@ pub same-test : (b d : Bool) (tag : ℕ) (allowed : ℕ → Bool) (f : File) (at
     → r ≡ expectedOf (field-if d tag allowed f at)
 same-test b d tag allowed f at r e q = rw (← e) q
 
+-- found, or refused at its place
 pub found-if : (b : Bool) (tag : ℕ) (allowed : ℕ → Bool) (f : File) (at : ℕ) (e : Extent) → Found e ≡ expectedOf (field-if b tag allowed f at)
     → field-if b tag allowed f at ≡ ok e
 unfolding field-if expectedOf
@@ -57,7 +57,7 @@ unfolding field-if expectedOf
 wrong-if true tag allowed f at q = wrong ProofField tag allowed f at q
 wrong-if false tag allowed f at q = let z : _≡_ {A = ℕ} 0 1 = cc in absurd (omega arith)
 
--- 1. Where the fields lie.
+-- 2. Where the fields lie.
 even-yes : (n : ℕ) → even n ≡ true → n % 2 ≡ 0
 unfolding even
 even-yes n e = eqb-yes (n % 2) 0 e
@@ -65,6 +65,14 @@ even-yes n e = eqb-yes (n % 2) 0 e
 fours-yes : (n : ℕ) → fours n ≡ true → n % 4 ≡ 0
 unfolding fours
 fours-yes n e = eqb-yes (n % 4) 0 e
+
+no-witness-tag : (t : ℕ) → t ≢ 0x12 → t ≢ 0x13 → between 0x12 0x13 t ≡ false
+unfolding between
+no-witness-tag t a b = go (leb 0x12 t) refl
+  where
+    go : (x : Bool) → leb 0x12 t ≡ x → (x && leb t 0x13) ≡ false
+    go true e = let h = leb-yes 0x12 t e in leb-beyond t 0x13 (omega arith)
+    go false e = refl
 
 -- a field that the step's tag may ask for
 pub record Lies-if (b : Bool) (allowed : ℕ → Bool) (f : File) (at : ℕ) (e : Extent) : Type 0 where
@@ -107,10 +115,10 @@ pub record Lie (f : File) (at : ℕ) (x : Fields) : Type 0 where
   pub new : getD f at 0 ≢ 0x14 → field ProofField (getD f at 0) even f at ≡ ok (x .clause)
   pub new-start : getD f at 0 ≢ 0x14 → x .clause .start ≡ at + 3
   pub no-new : getD f at 0 ≡ 0x14 → x .clause .size ≡ 0
-  pub no-witness : between 0x12 0x13 (getD f at 0) ≡ false → x .witness .size ≡ 0
+  pub no-witness : getD f at 0 ≢ 0x12 → getD f at 0 ≢ 0x13 → x .witness .size ≡ 0
   pub no-numbers : getD f at 0 < 0x13 → x .numbers .size ≡ 0
 
--- 2. The paper's reading of a step's fields, by what stands at each place. c, w and n are the fields found one after the other.
+-- 3. The paper's reading of a step's fields, by what stands at each place. c, w and n are the fields found one after the other.
 module _ (f : File) (at : ℕ) where
   pub tag-refused : between 0x11 0x14 (getD f at 0) ≡ false → read-fields f at ≡ bad ProofField at
   unfolding read-fields need _>>_ _>>=_
@@ -176,7 +184,7 @@ module _ (f : File) (at : ℕ) where
                 new = λ ne. absurd (ne e);
                 new-start = λ ne. absurd (ne e);
                 no-new = λ _. none;
-                no-witness = λ _. none;
+                no-witness = λ _ _. none;
                 no-numbers = λ l. absurd (omega arith);
               }
 
@@ -202,7 +210,7 @@ module _ (f : File) (at : ℕ) where
                 new = λ _. hc;
                 new-start = λ _. s;
                 no-new = λ e. absurd (ne e);
-                no-witness = witness-lies .unasked;
+                no-witness = λ a b. witness-lies .unasked (no-witness-tag (getD f at 0) a b);
                 no-numbers = λ l. modulo-lies .unasked (eqb-other (getD f at 0) 0x13 (omega arith));
               }
 
@@ -214,6 +222,7 @@ module _ (f : File) (at : ℕ) where
           either-lies true e = delete-lies (eqb-yes (getD f at 0) 0x14 e)
           either-lies false e = new-lies (eqb-no (getD f at 0) 0x14 e)
 
+-- a result that was read is what was read
 itself : {A : Type 0} (m : Read A) → Then (λ a. m ≡ ok a) m
 itself (ok a) = refl
 itself (bad r p) = tt
@@ -230,7 +239,7 @@ then-lie f at =
 pub lie : (f : File) (at : ℕ) (x : Fields) → read-fields f at ≡ ok x → Lie f at x
 lie f at x q = subst (Then (Lie f at)) q (then-lie f at)
 
--- 3. Whatever refuses the fields, refuses them for reason 8.
+-- 4. Whatever refuses the fields, refuses them for reason 8.
 abbrev Only : {A : Type 0} → Reason → Read A → Type 0
 Only r (ok a) = Unit {0}
 Only r (bad s p) = s ≡ r
@@ -271,7 +280,7 @@ only-fields f at =
     only-bind ProofField _ _ (only-field-if (between 0x12 0x13 (getD f at 0)) 0x21 fours f (past c)) λ w.
     only-bind ProofField _ _ (only-field-if (eqb (getD f at 0) 0x13) 0x22 even f (past w)) λ n. tt)
 
--- The code's answer from the paper's reading, and what a caller concludes from it.
+-- 5. The code's answer from the paper's reading, and what a caller concludes from it.
 module _ (f : File) (at : ℕ) where
   pub as-whole : (x : Fields) → read-fields f at ≡ ok x → Whole x ≡ fieldsOf (read-fields f at)
   unfolding fieldsOf
