@@ -18,6 +18,7 @@ use Rattle.paper.specs.Refusals.{no-two}
 use Rattle.table.specs.Table.{valueAt, mappedAt, setImage}
 use Rattle.table.proofs.Laws.{length-setImage, first-setImage-other, second-setImage-other, mapped-same, mapped-other, value-setImage}
 use Rattle.table.proofs.Kept.{same-table}
+use Rattle.mapping.specs.declared.Loaded.the-variants.{Once, Twice}
 use Rattle.mapping.specs.Mapping.{variables, Fitting, Bare, loaded, unloaded}
 use Rattle.mapping.proofs.Pairs.{next, none, listed, Part, part-start, part-here, part-next}
 use Rattle.mapping.proofs.Unloading.{Apart, unload-back, unload-value}
@@ -132,3 +133,10 @@ module _ (w t₀ t : List ℕ) (i : ℕ) (k : Loading w t₀ t i) where
     pub loading-end : t ≡ loaded t₀ (mappings (codes w))
     unfolding loaded
     loading-end = sym (ap (loaded t) (none w i h)) ∙ k .rest
+
+-- the place of a variable that is mapped twice is the pair's, and there is none where each is mapped once
+pub inside : (j i n : ℕ) → Twice j ≡ Twice i → j < n → i < n
+inside j i n e h = let k : j ≡ i = cc in omega arith
+
+pub not-twice : (i n : ℕ) → Once ≡ Twice i → i < n
+not-twice i n e = let z : _≡_ {A = ℕ} 0 1 = cc in absurd (omega arith)

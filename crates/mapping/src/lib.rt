@@ -2,7 +2,7 @@
 // which finds a variable that is mapped twice on the way, and cleared from it after the step.
 ghost use mathlib.Core.Path.{_≡_};
 ghost use mathlib.Core.List.{[]};
-ghost use Prim.Native.Nat.{ℕ, _%_, _≤_};
+ghost use Prim.Native.Nat.{ℕ, _%_, _<_, _≤_};
 ghost use lib.ListN.{length};
 ghost use Rattle.paper.specs.declared.Reason.{Reason};
 ghost use Rattle.paper.specs.Files.{codes, mappings};
@@ -31,6 +31,7 @@ pub fn unload_witness(w: &[u8], t: &mut [u8])
 pub fn load_witness(w: &[u8], t: &mut [u8]) -> Loaded
     requires { ⌜ (8192 ≤ length (now t)) × ((length (now w) % 4 ≡ 0) × (Fitting (mappings (codes (now w))) × Bare (now t))) ⌝ }
     ensures said { λ r. ⌜ ((why : Reason) (p : ℕ) → no-two why [] 4 p (variables (mappings (codes (now (w .entry))))) ≡ saidBy why p r) ⌝ }
+    ensures place { λ r. ⌜ ((i : ℕ) → r ≡ Loaded.Twice i → i < length (now (w .entry))) ⌝ }
     ensures table { λ r. ⌜ now (t .exit) ≡ tableAfter r (now (t .entry)) (mappings (codes (now (w .entry)))) ⌝ }
 {
     let mut i: usize = 0;

@@ -10,7 +10,7 @@ use lib.ListN.{length}
 use Rattle.table.specs.Table.{mappedAt, setImage}
 use Rattle.mapping.specs.Mapping.{saidBy, tableAfter}
 use Rattle.mapping.proofs.Pairs.{part-here}
-use Rattle.mapping.proofs.Loading.{Loading, loading-start, loading-turn, loading-twice, loading-back, loading-once, loading-end}
+use Rattle.mapping.proofs.Loading.{Loading, loading-start, loading-turn, loading-twice, loading-back, loading-once, loading-end, inside, not-twice}
 use Rattle.mapping.proofs.load_witness.Statement.{statement}
 use Rattle.mapping.proofs.load_witness.Tie as tie
 
@@ -66,7 +66,7 @@ returns c =
     let n = l .loop .inv .2 in
     let m : mappedAt (l .loop .t) (two (a .args .w .now) (l .loop .i)) ≡ true = ap (mappedAt (l .loop .t)) (sym (d .before .before .pair-at .ensures .0)) ∙ sym (d .is-mapped .ensures) ∙ u .before .before .if1 .taken in (
       loading-twice (a .args .w .now) (a .args .t .now) (l .loop .t) (l .loop .i) n (a .pre .0) (a .pre .1 .1 .0) h m,
-      u .unload-witness .ensures ∙ loading-back (a .args .w .now) (a .args .t .now) (l .loop .t) (l .loop .i) n (a .pre .0) (a .pre .1 .1 .0) (a .pre .1 .1 .1),
+      ((λ i e. inside (l .loop .i) i (length (a .args .w .now)) e (omega arith)), u .unload-witness .ensures ∙ loading-back (a .args .w .now) (a .args .t .now) (l .loop .t) (l .loop .i) n (a .pre .0) (a .pre .1 .1 .0) (a .pre .1 .1 .1)),
     )
 
 add-pair-at : tie.Need-add-pair-at Inv-loop μ-loop
@@ -124,7 +124,7 @@ returns-2 c =
     let a = l .before .before .before in
     let n = l .loop .inv .2 in (
       loading-once (a .args .w .now) (a .args .t .now) (l .loop .t) (l .loop .i) n (c .loop-test .left),
-      loading-end (a .args .w .now) (a .args .t .now) (l .loop .t) (l .loop .i) n (c .loop-test .left),
+      ((λ i e. not-twice i _ e), loading-end (a .args .w .now) (a .args .t .now) (l .loop .t) (l .loop .i) n (c .loop-test .left)),
     )
 
 pub load-witness-spec : {M : Type 1} → statement M
