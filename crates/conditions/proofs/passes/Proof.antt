@@ -1,56 +1,86 @@
+-- `conditions::passes` meets its contract. Assumes nothing.
+use mathlib.Core.Path.{_≡_, sym, ap, _∙_}
+use native.Mathlib.Omega.{arith}
 use borrow.Author.Needs.{needs}
+use Rattle.table.specs.Table.{clearValues}
+use Rattle.conditions.proofs.Answers.{clause-fits, clause-state, within-propagable, within-cleared, propagated-cleared, images-fit, images-leave, passes-by-images, passes-by-clash}
 use Rattle.conditions.proofs.passes.Statement.{statement}
 use Rattle.conditions.proofs.passes.Tie as tie
-use Rattle.conditions.proofs.passes.Reads as reads
-use Rattle.conditions.proofs.passes.Lts as lts
-use Rattle.loading.proofs.assume_clause.Reads as assume-clause-reads
-use Rattle.loading.proofs.assume_images.Reads as assume-images-reads
-use Rattle.propagation.proofs.propagate.Reads as propagate-reads
-use Rattle.table.proofs.clear_values.Reads as clear-values-reads
 
--- src/lib.rt:48:5
 assume-clause-requires : tie.Need-assume-clause-requires
-assume-clause-requires c κs = ?
+assume-clause-requires c κs = clause-fits _ _ _ _ _ _ (c .before .before .before .before .before .before .before .pre .0)
 
--- src/lib.rt:49:11
 assume-images-requires : tie.Need-assume-images-requires
-assume-images-requires c κs = ?
+assume-images-requires c κs =
+    let k = c .before .before .before in
+    let pre = k .before .before .before .before .before .before .before .before .pre in
+    images-fit _ _ _ _ _ _ (pre .0) (pre .1 .0) _ (pre .1 .1) _ (clause-state _ _ _ _ _ _ (pre .0) _ (k .assume-clause .ensures))
 
--- src/lib.rt:51:33
 enum-told : tie.Need-enum-told
-enum-told c = ?
+enum-told c = search needs
 
--- src/lib.rt:51:13
 clear-values-requires : tie.Need-clear-values-requires
-clear-values-requires c κs = ?
+clear-values-requires c κs =
+    let m = c .before .before .before .before .before in
+    let k = m .before .before .before .before in
+    let ready = k .before .before .before .before .before .before .before .before .pre .0 .ready in
+    search needs
 
--- src/lib.rt:55:67
 enum-told-2 : tie.Need-enum-told-2
-enum-told-2 c = ?
+enum-told-2 c = search needs
 
--- src/lib.rt:55:17
 propagate-requires : tie.Need-propagate-requires
-propagate-requires c κs = ?
+propagate-requires c κs =
+    let m = c .before .before .before .before .before in
+    let k = m .before .before .before .before in
+    let pre = k .before .before .before .before .before .before .before .before .pre in
+    let o = clause-state _ _ _ _ _ _ (pre .0) _ (k .assume-clause .ensures) in
+    within-propagable _ _ _ _ _ _ (pre .0) _ (images-leave _ _ _ _ _ _ (pre .0) (pre .1 .0) _ (pre .1 .1) _ o _ (m .assume-images .ensures .1))
 
--- src/lib.rt:56:13
 clear-values-requires-2 : tie.Need-clear-values-requires-2
-clear-values-requires-2 c κs = ?
+clear-values-requires-2 c κs =
+    let x = c .before .before .before in
+    let m = x .before .before .before .before .before .before in
+    let k = m .before .before .before .before in
+    let ready = k .before .before .before .before .before .before .before .before .pre .0 .ready in
+    search needs
 
--- src/lib.rt:35:1
 same-length : tie.Need-same-length
-same-length c = ?
+same-length c = search needs
 
--- src/lib.rt:35:1
 returns : tie.Need-returns
-returns c = ?
+returns c =
+    let d = c .before .before in
+    let n = d .before .before in
+    let m = n .before .before .before .before in
+    let k = m .before .before .before .before in
+    let pre = k .before .before .before .before .before .before .before .before .pre in
+    let o = clause-state _ _ _ _ _ _ (pre .0) _ (k .assume-clause .ensures) in
+    let w = images-leave _ _ _ _ _ _ (pre .0) (pre .1 .0) _ (pre .1 .1) _ o _ (m .assume-images .ensures .1) in
+    (
+      λ s images. passes-by-images _ _ _ _ _ _ (pre .0) (pre .1 .0) _ (pre .1 .1) _ o s images (sym (n .enum-told .given .1) ∙ m .assume-images .ensures .0),
+      d .clear-values .ensures ∙ within-cleared _ _ _ _ _ _ (pre .0) _ w,
+    )
 
--- src/lib.rt:35:1
 same-length-2 : tie.Need-same-length-2
-same-length-2 c = ?
+same-length-2 c = search needs
 
--- src/lib.rt:35:1
 returns-2 : tie.Need-returns-2
-returns-2 c = ?
+returns-2 c =
+    let d = c .before .before in
+    let x = d .before .before .before .before in
+    let n = x .before .before in
+    let m = n .before .before .before .before in
+    let k = m .before .before .before .before in
+    let pre = k .before .before .before .before .before .before .before .before .pre in
+    let o = clause-state _ _ _ _ _ _ (pre .0) _ (k .assume-clause .ensures) in
+    let w = images-leave _ _ _ _ _ _ (pre .0) (pre .1 .0) _ (pre .1 .1) _ o _ (m .assume-images .ensures .1) in
+    (
+      λ s images.
+          passes-by-clash _ _ _ _ _ _ (pre .0) (pre .1 .0) _ (pre .1 .1) _ o s images (sym (n .enum-told2 .given .1) ∙ m .assume-images .ensures .0) _
+          (m .assume-images .ensures .1) _ _ (x .propagate .ensures),
+      d .clear-values2 .ensures ∙ propagated-cleared _ _ _ _ _ _ (pre .0) _ w _ _ (x .propagate .ensures),
+    )
 
 pub passes-spec : {M : Type 1} → statement M
 passes-spec =
