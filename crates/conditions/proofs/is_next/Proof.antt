@@ -1,25 +1,25 @@
+-- `conditions::is_next` meets its contract. Assumes nothing.
 use borrow.Author.Needs.{needs}
+use Rattle.conditions.proofs.Search.{first-none, first-here}
 use Rattle.conditions.proofs.is_next.Statement.{statement}
 use Rattle.conditions.proofs.is_next.Tie as tie
 use Rattle.conditions.proofs.is_next.Reads as reads
 use Rattle.conditions.proofs.is_next.Lts as lts
 use Rattle.field.proofs.pair_at.Reads as pair-at-reads
 
--- src/lib.rt:67:8
 sub-if1 : tie.Need-sub-if1
-sub-if1 c = ?
+sub-if1 c = search needs
 
--- src/lib.rt:68:9
 returns : tie.Need-returns
-returns c = ?
+returns c = let a = c .before .before .args in first-none (a .numbers .now) (a .at) (a .n) (c .if1 .taken)
 
--- src/lib.rt:70:5
 pair-at-requires : tie.Need-pair-at-requires
-pair-at-requires c κs = ?
+pair-at-requires c κs = search needs
 
--- src/lib.rt:63:1
 returns-2 : tie.Need-returns-2
-returns-2 c = ?
+returns-2 c =
+    let a = c .before .before .before .args in
+    first-here (a .numbers .now) (a .at) (a .n) _ (c .before .before .before .pre) (c .before .if1 .left) (c .pair-at .ensures .0)
 
 pub is-next-spec : {M : Type 1} → statement M
 is-next-spec = tie.close (tie.spec sub-if1 returns pair-at-requires returns-2)

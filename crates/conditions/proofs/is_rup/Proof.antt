@@ -30,8 +30,7 @@ returns c =
     let m = d .before .before .before .before in
     let k = m .before .before .before .before in
     let asked = k .before .before .before .before .before .before .before .pre in
-    let o = clause-state _ _ _ _ _ _ asked _ (k .assume-clause .ensures) in
-    (
+    let o = clause-state _ _ _ _ _ _ asked _ (k .assume-clause .ensures) in (
       clash-decides _ _ _ _ _ _ asked _ _ o _ _ (m .propagate .ensures),
       d .clear-values .ensures ∙ propagated-cleared _ _ _ _ _ _ asked _ (o .within) _ _ (m .propagate .ensures),
     )

@@ -56,8 +56,7 @@ returns c =
     let k = m .before .before .before .before in
     let pre = k .before .before .before .before .before .before .before .before .pre in
     let o = clause-state _ _ _ _ _ _ (pre .0) _ (k .assume-clause .ensures) in
-    let w = images-leave _ _ _ _ _ _ (pre .0) (pre .1 .0) _ (pre .1 .1) _ o _ (m .assume-images .ensures .1) in
-    (
+    let w = images-leave _ _ _ _ _ _ (pre .0) (pre .1 .0) _ (pre .1 .1) _ o _ (m .assume-images .ensures .1) in (
       λ s images. passes-by-images _ _ _ _ _ _ (pre .0) (pre .1 .0) _ (pre .1 .1) _ o s images (sym (n .enum-told .given .1) ∙ m .assume-images .ensures .0),
       d .clear-values .ensures ∙ within-cleared _ _ _ _ _ _ (pre .0) _ w,
     )
@@ -74,8 +73,7 @@ returns-2 c =
     let k = m .before .before .before .before in
     let pre = k .before .before .before .before .before .before .before .before .pre in
     let o = clause-state _ _ _ _ _ _ (pre .0) _ (k .assume-clause .ensures) in
-    let w = images-leave _ _ _ _ _ _ (pre .0) (pre .1 .0) _ (pre .1 .1) _ o _ (m .assume-images .ensures .1) in
-    (
+    let w = images-leave _ _ _ _ _ _ (pre .0) (pre .1 .0) _ (pre .1 .1) _ o _ (m .assume-images .ensures .1) in (
       λ s images.
           passes-by-clash _ _ _ _ _ _ (pre .0) (pre .1 .0) _ (pre .1 .1) _ o s images (sym (n .enum-told2 .given .1) ∙ m .assume-images .ensures .0) _
           (m .assume-images .ensures .1) _ _ (x .propagate .ensures),
