@@ -26,9 +26,9 @@ pub fn is_rup<'a>(
     ensures table { λ r. ⌜ now (t .exit) ≡ now (t .entry) ⌝ }
 {
     loading::assume_clause(clause, t);
-    let p = propagation::propagate(formula, proof, words, t);
+    let state = propagation::propagate(formula, proof, words, t);
     table::clear_values(t, vars);
-    p.clash
+    state.clash
 }
 
 // Whether the clause d passes, for the new clause and the witness whose images the table holds.
@@ -52,9 +52,9 @@ pub fn passes<'a>(
             true
         }
         Assumed::Open => {
-            let p = propagation::propagate(formula, proof, words, t);
-            table::clear_values(t, vars);
-            p.clash
+            let union = propagation::propagate(formula, proof, words, t);
+            table::clear_values(t, vars); // before the next clause is tested
+            union.clash
         }
     }
 }
