@@ -57,7 +57,7 @@ module _ (f : File) (e : Extent) (vars : ℕ) (g : Checkable f e vars) where
     whole = g .whole;
     small = λ l m.
         let all = subst (Then (λ _. (k : ℕ) → k ∈ codes (payload f e) → between 2 (2 * vars + 1) k ≡ true)) (q FormulaCode)
-            (each-then FormulaCode (between 2 (2 * vars + 1)) 2 (e .start) (codes (payload f e))) in
+        (each-then FormulaCode (between 2 (2 * vars + 1)) 2 (e .start) (codes (payload f e))) in
         let b = between-yes 2 (2 * vars + 1) l (all l m) in
         let v = g .limit in
         omega arith;

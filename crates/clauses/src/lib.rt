@@ -46,12 +46,13 @@ fn first_twice(file: &[u8], e: Extent, t: &mut [u8]) -> First
     let mut i = e.start;
     let end = e.start + e.size;
     while i < end {
-        let v = field::pair_at(file, i) / 2;
+        let place = i;
+        i += 2;
+        let v = field::pair_at(file, place) / 2;
         if table::value(t, v) != 0 {
-            return First::At(i);
+            return First::At(place);
         }
         table::set_value(t, v, 1);
-        i += 2;
     }
     First::Nowhere
 }

@@ -16,8 +16,7 @@ returns : tie.Need-returns
 returns c =
     let d = c .before in
     let s = d .before .before in
-    let a = s .before .before .before in
-    (
+    let a = s .before .before .before in (
       checked-range _ (a .args .e) _ (a .pre .0) _ (λ range. s .first-out-of-range .ensures range ∙ ap (placeSaid range) (d .p .given .1)),
       refl,
     )
@@ -45,14 +44,13 @@ returns-2 c =
     let v = o .before .before .before .before in
     let d = v .before .before in
     let s = d .before .before in
-    let a = s .before .before .before in
-    (
+    let a = s .before .before .before in (
       checked-twice
-      _ (a .args .e) _
-      (a .pre .0)
-      (λ range. s .first-out-of-range .ensures range ∙ ap (placeSaid range) (d .enum-told .given .1))
-      _
-      (λ twice. v .variable-twice .ensures .0 twice ∙ ap (placeSaid twice) (o .p2 .given .1)),
+          _ (a .args .e) _
+          (a .pre .0)
+          (λ range. s .first-out-of-range .ensures range ∙ ap (placeSaid range) (d .enum-told .given .1))
+          _
+          (λ twice. v .variable-twice .ensures .0 twice ∙ ap (placeSaid twice) (o .p2 .given .1)),
       v .variable-twice .ensures .1,
     )
 
@@ -68,14 +66,13 @@ returns-3 c =
     let v = o .before .before .before .before in
     let d = v .before .before in
     let s = d .before .before in
-    let a = s .before .before .before in
-    (
+    let a = s .before .before .before in (
       checked-long
-      _ (a .args .e) _
-      (a .pre .0)
-      (λ range. s .first-out-of-range .ensures range ∙ ap (placeSaid range) (d .enum-told .given .1))
-      (λ twice. v .variable-twice .ensures .0 twice ∙ ap (placeSaid twice) (o .enum-told2 .given .1))
-      (c .if1 .taken),
+          _ (a .args .e) _
+          (a .pre .0)
+          (λ range. s .first-out-of-range .ensures range ∙ ap (placeSaid range) (d .enum-told .given .1))
+          (λ twice. v .variable-twice .ensures .0 twice ∙ ap (placeSaid twice) (o .enum-told2 .given .1))
+          (c .if1 .taken),
       v .variable-twice .ensures .1,
     )
 
@@ -88,14 +85,13 @@ returns-4 c =
     let v = o .before .before .before .before in
     let d = v .before .before in
     let s = d .before .before in
-    let a = s .before .before .before in
-    (
+    let a = s .before .before .before in (
       checked-fine
-      _ (a .args .e) _
-      (a .pre .0)
-      (λ range. s .first-out-of-range .ensures range ∙ ap (placeSaid range) (d .enum-told .given .1))
-      (λ twice. v .variable-twice .ensures .0 twice ∙ ap (placeSaid twice) (o .enum-told2 .given .1))
-      (c .if1 .left),
+          _ (a .args .e) _
+          (a .pre .0)
+          (λ range. s .first-out-of-range .ensures range ∙ ap (placeSaid range) (d .enum-told .given .1))
+          (λ twice. v .variable-twice .ensures .0 twice ∙ ap (placeSaid twice) (o .enum-told2 .given .1))
+          (c .if1 .left),
       v .variable-twice .ensures .1,
     )
 

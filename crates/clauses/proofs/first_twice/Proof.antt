@@ -22,6 +22,9 @@ loop-holds c =
     let a = c .before .before .before in
     marking-start _ (a .args .e) _ (a .pre .0) (a .pre .1 .0) (a .pre .1 .1)
 
+add-i : tie.Need-add-i Inv-loop μ-loop
+add-i c = search needs
+
 pair-at-requires : tie.Need-pair-at-requires Inv-loop μ-loop
 pair-at-requires c κs = walk-inside (c .before .loop .inv .walk) (c .loop-test .taken)
 
@@ -57,9 +60,6 @@ set-value-requires c κs =
     let k = l .inv .room in
     (omega arith, (omega arith, omega arith))
 
-add-i : tie.Need-add-i Inv-loop μ-loop
-add-i c = search needs
-
 loop-less : tie.Need-loop-less Inv-loop μ-loop
 loop-less c = search needs
 
@@ -93,12 +93,12 @@ first-twice-spec =
     μ-loop
     add-end
     loop-holds
+    add-i
     pair-at-requires
     value-requires
     same-length
     returns
     set-value-requires
-    add-i
     loop-less
     loop-again
     same-length-2
