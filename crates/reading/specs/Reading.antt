@@ -1,0 +1,79 @@
+-- What the reading of the formula says, and the clause table that it leaves.
+use Prim.Native.Nat.{ℕ, zero, suc, _+_, _≤_, _<_}
+use mathlib.Core.Path.{_≡_}
+use mathlib.Core.List.{List, [], _∷_, _++_}
+use lib.Dec.{leb}
+use lib.ListN.{length, getD}
+use Rattle.paper.specs.declared.Reason.{Reason}
+use Rattle.paper.specs.declared.Reason.the-variants.{FormulaField, FormulaEnd}
+use Rattle.paper.specs.declared.Extent.{Extent}
+use Rattle.paper.specs.Atoms.{Clause, Formula}
+use Rattle.paper.specs.Files.{File, Read, ok, bad, _>>=_, _>>_, need, payload, past, field, even, codes}
+use Rattle.paper.specs.Refusals.{read-clauses, read-formula}
+use Rattle.lookup.specs.Live.{live}
+use Rattle.reading.specs.declared.HeadRead.{HeadRead}
+use Rattle.reading.specs.declared.HeadRead.the-variants.{Limits, Bad as BadHead}
+use Rattle.reading.specs.declared.ClauseRead.{ClauseRead}
+use Rattle.reading.specs.declared.ClauseRead.the-variants.{Next, Bad as BadClause}
+use Rattle.reading.specs.declared.FormulaRead.{FormulaRead}
+use Rattle.reading.specs.declared.FormulaRead.the-variants.{Whole, Bad as BadFormula}
+
+-- what the paper says of the formula, by what it says of the clauses: "after clause m, 7"
+unfoldable pub ended : File → ℕ → ℕ → Read (Formula × ℕ) → Read (ℕ × Formula × ℕ)
+ended f vars m x = do
+  F ← x
+  need (leb (length f) (F .1)) FormulaEnd (F .1)
+  ok (vars, F .0, suc m)
+
+-- HEAD was read: V and m are within their limits, and the clauses follow at place 7
+pub record HeadTaken (f : File) (vars m : ℕ) : Type 0 where
+  pub variables : vars ≤ 4095
+  pub clauses : m ≤ 16383
+  pub read : read-formula f ≡ ended f vars m (read-clauses f vars m 1 7)
+
+abbrev pub HeadSaid : File → HeadRead → Type 0
+HeadSaid f (Limits vars m) = HeadTaken f vars m
+HeadSaid f (BadHead reason place) = read-formula f ≡ bad reason place
+
+-- clauses in front of those that are read
+unfoldable pub prepend : Formula → Read (Formula × ℕ) → Read (Formula × ℕ)
+prepend F (ok x) = ok (F ++ x .0, x .1)
+prepend F (bad r p) = bad r p
+
+-- a clause was read: it is the first of those that are read from its place on, and the others from next on
+pub record ClauseTaken (f : File) (vars at next : ℕ) : Type 0 where
+  pub extent : Extent
+  pub starts : at < length f
+  pub stands : field FormulaField 0x02 even f at ≡ ok extent
+  pub read : (m n : ℕ) → read-clauses f vars (suc m) n at ≡ prepend ((n, codes (payload f extent)) ∷ []) (read-clauses f vars m (suc n) next)
+
+abbrev pub ClauseSaid : File → ℕ → ℕ → ClauseRead → Type 0
+ClauseSaid f vars at (Next next) = ClauseTaken f vars at next
+ClauseSaid f vars at (BadClause reason place) = (m n : ℕ) → read-clauses f vars (suc m) n at ≡ bad reason place
+
+-- m clauses were read, up to the place at: they are the live ones of the words
+pub record ClausesTaken (f : File) (vars m at : ℕ) (ws : List ℕ) : Type 0 where
+  pub read : (p : File) → read-clauses f vars m 1 7 ≡ ok (live f p ws, at)
+  pub above : (k : ℕ) → m + 1 ≤ k → getD ws k 0 ≡ 0
+
+abbrev pub ClausesSaid : File → ℕ → ℕ → List ℕ → ClauseRead → Type 0
+ClausesSaid f vars m ws (Next at) = ClausesTaken f vars m at ws
+ClausesSaid f vars m ws (BadClause reason place) = read-clauses f vars m 1 7 ≡ bad reason place
+
+-- A formula was read: its clauses are the live ones of the words ws, whatever the proof is, and no word from next on is entered.
+pub record FormulaTaken (f : File) (vars next : ℕ) (ws₀ ws : List ℕ) : Type 0 where
+  pub read : (p : File) → read-formula f ≡ ok (vars, live f p ws, next)
+  pub above : (k : ℕ) → next ≤ k → getD ws k 0 ≡ 0
+  pub long : length ws ≡ length ws₀
+  pub variables : vars ≤ 4095
+  pub first : 1 ≤ next
+  pub last : next ≤ 16384
+
+-- A formula was refused: the words are as at entry.
+pub record FormulaRefused (f : File) (reason : Reason) (place : ℕ) (ws₀ ws : List ℕ) : Type 0 where
+  pub read : read-formula f ≡ bad reason place
+  pub words : ws ≡ ws₀
+
+abbrev pub FormulaSaid : File → List ℕ → List ℕ → FormulaRead → Type 0
+FormulaSaid f ws₀ ws (Whole vars next) = FormulaTaken f vars next ws₀ ws
+FormulaSaid f ws₀ ws (BadFormula reason place) = FormulaRefused f reason place ws₀ ws
