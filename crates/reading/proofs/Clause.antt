@@ -1,7 +1,7 @@
 -- One clause as the code reads it, against the paper's reading of the clauses.
 -- Assumes nothing.
 use Prim.Native.Nat.{ℕ, zero, suc, _+_, _-_, _%_, _≤_, _<_}
-use mathlib.Core.Path.{_≡_, refl, sym, ap, _∙_}
+use mathlib.Core.Path.{_≡_, refl, sym, ap, subst, _∙_}
 use mathlib.Core.Bool.{Bool, true, false}
 use mathlib.Core.List.{List, [], _∷_, _++_, append-nil, append-assoc}
 use native.Mathlib.Omega.{arith}
@@ -19,7 +19,8 @@ use Rattle.field.proofs.Laws.{Stands, stands}
 use Rattle.clauses.specs.declared.ClauseCheck.{ClauseCheck}
 use Rattle.clauses.specs.declared.ClauseCheck.the-variants.{Fine, Range, Twice, Long}
 use Rattle.clauses.specs.Check.{Checkable, clauseSaid}
-use Rattle.reading.specs.Reading.{prepend, ClauseTaken}
+use Rattle.reading.specs.declared.ClauseRead.{ClauseRead}
+use Rattle.reading.specs.Reading.{prepend, ClauseTaken, ClauseSaid}
 
 -- clauses that were read, and the place past them
 abbrev read-up-to : ℕ → Formula → Read (Formula × ℕ)
@@ -84,3 +85,7 @@ module _ (f : File) (vars at : ℕ) where
           stands = q;
           read = λ m n. rw (lt-ltb at (length f) h, q, checked ∙ k) (prepend-one n (codes (payload f e)) (read-clauses f vars m (suc n) (e .start + e .size)));
         }
+
+-- the code's answer under another name for it
+pub clause-said-as : (f : File) (vars at : ℕ) (r s : ClauseRead) → ClauseSaid f vars at r → r ≡ s → ClauseSaid f vars at s
+clause-said-as f vars at r s k e = subst (λ (x : ClauseRead). ClauseSaid f vars at x) e k

@@ -1,2 +1,3 @@
 pub mod Head
 pub mod Clause
+pub mod Entering

@@ -1,86 +1,149 @@
+-- `reading::read_clause` meets its contract. Assumes nothing.
 use borrow.Author.Needs.{needs}
+use mathlib.Core.Path.{refl, sym, _∙_}
+use native.Mathlib.Omega.{arith}
+use Rattle.paper.specs.declared.Reason.the-variants.{FormulaField}
+use Rattle.paper.specs.Files.{even}
+use Rattle.field.proofs.Laws.{found, wrong, found-stands}
+use Rattle.clauses.specs.Check.{clauseSaid}
+use Rattle.reading.proofs.Clause.{clause-ends, clause-wrong, clause-checkable, clause-bad, clause-taken}
 use Rattle.reading.proofs.read_clause.Statement.{statement}
 use Rattle.reading.proofs.read_clause.Tie as tie
-use Rattle.reading.proofs.read_clause.Reads as reads
-use Rattle.reading.proofs.read_clause.Lts as lts
-use Rattle.clauses.proofs.check_clause.Reads as check-clause-reads
-use Rattle.field.proofs.expect.Reads as expect-reads
 
--- src/lib.rt:60:9
 returns : tie.Need-returns
-returns c = search needs
+returns c = (clause-ends _ _ _ (c .if1 .taken), refl)
 
--- src/lib.rt:65:30
 expect-requires : tie.Need-expect-requires
 expect-requires c κs = search needs
 
--- src/lib.rt:65:25
 enum-known-e : tie.Need-enum-known-e
 enum-known-e c = search needs
 
--- src/lib.rt:67:21
 enum-told : tie.Need-enum-told
 enum-told c = search needs
 
--- src/lib.rt:66:9
 returns-2 : tie.Need-returns-2
-returns-2 c = search needs
+returns-2 c =
+    let x = c .before .before in
+    (clause-wrong _ _ _ (x .before .if1 .left) (wrong FormulaField 2 even _ _ (sym (c .enum-told .given .1) ∙ x .expect .ensures FormulaField)), refl)
 
--- src/lib.rt:71:11
 check-clause-requires : tie.Need-check-clause-requires
-check-clause-requires c κs = search needs
+check-clause-requires c κs =
+    let e = c .before .before in
+    let x = e .before .before in
+    let a = x .before .before .before .before in (
+      clause-checkable _ _ _ (x .before .if1 .left) _ (found FormulaField 2 even _ _ _ (sym (e .e .given .1) ∙ x .expect .ensures FormulaField)) (a .pre .0),
+      a .pre .1,
+    )
 
--- src/lib.rt:73:17
 enum-told-2 : tie.Need-enum-told-2
 enum-told-2 c = search needs
 
--- src/lib.rt:74:30
 add-t19 : tie.Need-add-t19
-add-t19 c = search needs
+add-t19 c =
+    let e = c .before .before .before .before .before .before .before .before in
+    let x = e .before .before in
+    let s = found-stands FormulaField 2 even _ _ _ (sym (e .e .given .1) ∙ x .expect .ensures FormulaField) in
+    search needs
 
--- src/lib.rt:76:28
 enum-known-place : tie.Need-enum-known-place
 enum-known-place c = search needs
 
--- src/lib.rt:80:28
 enum-known-place-2 : tie.Need-enum-known-place-2
 enum-known-place-2 c = search needs
 
--- src/lib.rt:85:21
 enum-told-3 : tie.Need-enum-told-3
 enum-told-3 c = search needs
 
--- src/lib.rt:54:1
 same-length : tie.Need-same-length
 same-length c = search needs
 
--- src/lib.rt:54:1
 returns-3 : tie.Need-returns-3
-returns-3 c = search needs
+unfolding clauseSaid
+returns-3 c =
+    let o = c .before in
+    let k = o .before .before .before .before in
+    let e = k .before .before .before in
+    let x = e .before .before in (
+      clause-taken
+          _ _ _
+          (x .before .if1 .left)
+          _
+          (found FormulaField 2 even _ _ _ (sym (e .e .given .1) ∙ x .expect .ensures FormulaField))
+          _ _
+          (k .check-clause .ensures .0)
+          (o .enum-told2 .given .1)
+          refl,
+      k .check-clause .ensures .1,
+    )
 
--- src/lib.rt:54:1
 same-length-2 : tie.Need-same-length-2
 same-length-2 c = search needs
 
--- src/lib.rt:54:1
 returns-4 : tie.Need-returns-4
-returns-4 c = search needs
+unfolding clauseSaid
+returns-4 c =
+    let o = c .before in
+    let k = o .before .before .before .before in
+    let e = k .before .before .before in
+    let x = e .before .before in (
+      clause-bad
+          _ _ _
+          (x .before .if1 .left)
+          _
+          (found FormulaField 2 even _ _ _ (sym (e .e .given .1) ∙ x .expect .ensures FormulaField))
+          _ _
+          (k .check-clause .ensures .0)
+          (o .place .given .1)
+          _ _
+          refl,
+      k .check-clause .ensures .1,
+    )
 
--- src/lib.rt:54:1
 same-length-3 : tie.Need-same-length-3
 same-length-3 c = search needs
 
--- src/lib.rt:54:1
 returns-5 : tie.Need-returns-5
-returns-5 c = search needs
+unfolding clauseSaid
+returns-5 c =
+    let o = c .before in
+    let k = o .before .before .before .before in
+    let e = k .before .before .before in
+    let x = e .before .before in (
+      clause-bad
+          _ _ _
+          (x .before .if1 .left)
+          _
+          (found FormulaField 2 even _ _ _ (sym (e .e .given .1) ∙ x .expect .ensures FormulaField))
+          _ _
+          (k .check-clause .ensures .0)
+          (o .place2 .given .1)
+          _ _
+          refl,
+      k .check-clause .ensures .1,
+    )
 
--- src/lib.rt:54:1
 same-length-4 : tie.Need-same-length-4
 same-length-4 c = search needs
 
--- src/lib.rt:54:1
 returns-6 : tie.Need-returns-6
-returns-6 c = search needs
+unfolding clauseSaid
+returns-6 c =
+    let k = c .before .before .before .before in
+    let e = k .before .before .before in
+    let x = e .before .before in (
+      clause-bad
+          _ _ _
+          (x .before .if1 .left)
+          _
+          (found FormulaField 2 even _ _ _ (sym (e .e .given .1) ∙ x .expect .ensures FormulaField))
+          _ _
+          (k .check-clause .ensures .0)
+          (c .enum-told3 .given .1)
+          _ _
+          refl,
+      k .check-clause .ensures .1,
+    )
 
 pub read-clause-spec : {M : Type 1} → statement M
 read-clause-spec =
