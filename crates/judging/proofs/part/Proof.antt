@@ -1,4 +1,5 @@
 use borrow.Author.Needs.{needs}
+use Rattle.judging.proofs.Laws.{part-payload}
 use Rattle.judging.proofs.part.Statement.{statement}
 use Rattle.judging.proofs.part.Tie as tie
 use Rattle.judging.proofs.part.Reads as reads
@@ -22,7 +23,7 @@ part-result-end c = search needs
 
 -- src/lib.rt:29:1
 returns : tie.Need-returns
-returns c = ?
+returns c = part-payload (c .before .before .args .s .now) (c .before .before .args .e)
 
 pub part-spec : {M : Type 1} → statement M
 part-spec = tie.close (tie.spec add-end sub-result part-result-start part-result-end returns)

@@ -1,4 +1,11 @@
+-- `judging::take_step` meets its contract.
+-- Assumes nothing.
+use Prim.Native.Nat.{_<_}
 use borrow.Author.Needs.{needs}
+use mathlib.Core.Path.{sym, ap, _∙_}
+use native.Mathlib.Omega.{arith}
+use Rattle.steps.proofs.Fields.{lie, whole, refused}
+use Rattle.judging.proofs.Laws.{fields-stop, step-stopped, deleted-done, number-free, added-done}
 use Rattle.judging.proofs.take_step.Statement.{statement}
 use Rattle.judging.proofs.take_step.Tie as tie
 use Rattle.judging.proofs.take_step.Reads as reads
@@ -23,7 +30,8 @@ enum-known-x c = search needs
 
 -- src/lib.rt:157:39
 judge-fields-requires : tie.Need-judge-fields-requires
-judge-fields-requires c κs = ?
+judge-fields-requires c κs =
+    record { ready = c .before .before .before .before .before .before .before .before .before .before .pre; fields = whole _ _ _ (sym (c .before .before .before .x .given .1) ∙ c .before .before .before .before .before .read-fields .ensures) }
 
 -- src/lib.rt:158:34
 enum-known-reason : tie.Need-enum-known-reason
@@ -35,7 +43,9 @@ enum-told c = search needs
 
 -- src/lib.rt:161:17
 remove-numbers-requires : tie.Need-remove-numbers-requires
-remove-numbers-requires c κs = ?
+remove-numbers-requires c κs =
+    let i = lie _ _ _ (whole _ _ _ (sym (c .before .before .before .before .before .before .before .before .before .before .x .given .1) ∙ c .before .before .before .before .before .before .before .before .before .before .before .before .read-fields .ensures)) in
+    (i .numbers-within, i .numbers-even)
 
 -- src/lib.rt:162:20
 shared-slice-read-if1 : tie.Need-shared-slice-read-if1
@@ -51,7 +61,10 @@ same-length-2 c = search needs
 
 -- src/lib.rt:163:21
 returns : tie.Need-returns
-returns c = ?
+returns c =
+    let fields = whole _ _ _ (sym (c .before .before .before .before .before .before .before .before .before .before .before .before .before .before .before .x .given .1) ∙ c .before .before .before .before .before .before .before .before .before .before .before .before .before .before .before .before .before .read-fields .ensures) in
+    let d = c .before .before .before .before .before .before .before .before .before .before .before .judge-fields .ensures in
+    deleted-done (c .before .before .before .before .before .before .before .before .before .before .before .before .before .before .before .before .before .before .before .before .before .before .pre) _ _ (d .1) fields _ (c .before .before .before .before .remove-numbers .ensures) (rw (c .before .before .before .before .before .before .before .enum-told .given .1) at (d .0)) (c .if1 .taken)
 
 -- src/lib.rt:165:44
 proof-word-requires : tie.Need-proof-word-requires
@@ -59,15 +72,20 @@ proof-word-requires c κs = search needs
 
 -- src/lib.rt:165:17
 enter-requires : tie.Need-enter-requires
-enter-requires c κs = ?
+enter-requires c κs =
+    let r = c .before .before .before .before .before .before .before .before .before .before .before .before .before .before .before .before .before .before .before .before .before .before .before .before .pre in
+    let fields = whole _ _ _ (sym (c .before .before .before .before .before .before .before .before .before .before .before .before .before .before .before .before .before .x .given .1) ∙ c .before .before .before .before .before .before .before .before .before .before .before .before .before .before .before .before .before .before .before .read-fields .ensures) in
+    let d = c .before .before .before .before .before .before .before .before .before .before .before .before .before .judge-fields .ensures in
+    let free = number-free r _ _ (d .1) fields _ (c .before .before .before .before .before .before .remove-numbers .ensures) (rw (c .before .before .before .before .before .before .before .before .before .enum-told .given .1) at (d .0)) (c .before .before .if1 .left) in
+    omega (arith, c .before .before .before .before .before .before .remove-numbers .ensures .same-length, r .words-long)
 
 -- src/lib.rt:167:27
 add-t31 : tie.Need-add-t31
-add-t31 c = ?
+add-t31 c = omega (arith, c .before .before .before .before .before .before .before .before .before .before .before .before .before .before .before .before .before .before .before .before .before .before .before .before .before .before .before .pre .last)
 
 -- src/lib.rt:140:1
 returns-2 : tie.Need-returns-2
-returns-2 c = ?
+returns-2 c = fields-stop (c .before .before .before .before .before .before .before .before .pre) (refused _ _ _ (sym (c .before .place .given .1) ∙ c .before .before .before .read-fields .ensures))
 
 -- src/lib.rt:140:1
 same-length-3 : tie.Need-same-length-3
@@ -79,7 +97,9 @@ same-length-4 c = search needs
 
 -- src/lib.rt:140:1
 returns-3 : tie.Need-returns-3
-returns-3 c = ?
+returns-3 c =
+    let d = c .before .before .before .before .before .judge-fields .ensures in
+    step-stopped (c .before .before .before .before .before .before .before .before .before .before .before .before .before .before .before .before .pre) (c .before .before .before .before .before .before .before .before .before .x .given .0 .0) _ (d .1) (rw (c .before .reason .given .1) at (d .0))
 
 -- src/lib.rt:140:1
 same-length-5 : tie.Need-same-length-5
@@ -91,7 +111,11 @@ same-length-6 c = search needs
 
 -- src/lib.rt:140:1
 returns-4 : tie.Need-returns-4
-returns-4 c = ?
+returns-4 c =
+    let fields = whole _ _ _ (sym (c .before .before .before .before .before .before .before .before .before .before .before .before .before .before .before .before .before .before .before .before .x .given .1) ∙ c .before .before .before .before .before .before .before .before .before .before .before .before .before .before .before .before .before .before .before .before .before .before .read-fields .ensures) in
+    let d = c .before .before .before .before .before .before .before .before .before .before .before .before .before .before .before .before .judge-fields .ensures in
+    added-done (c .before .before .before .before .before .before .before .before .before .before .before .before .before .before .before .before .before .before .before .before .before .before .before .before .before .before .before .pre) _ _ (d .1) fields _ (c .before .before .before .before .before .before .before .before .before .remove-numbers .ensures) (rw (c .before .before .before .before .before .before .before .before .before .before .before .before .enum-told .given .1) at (d .0)) (c .before .before .before .before .before .if1 .left) _ _
+    (c .before .before .enter .ensures) (c .before .before .before .proof-word .ensures)
 
 pub take-step-spec : {M : Type 1} → statement M
 take-step-spec =

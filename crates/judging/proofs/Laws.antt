@@ -1,0 +1,322 @@
+-- What each stage of a step's judgement passes on to the next, and concludes from what it calls.
+-- Assumes nothing.
+use Prim.Native.Nat.{ℕ, suc, _+_, _-_, _*_, _/_, _%_, _≤_, _<_}
+use mathlib.Core.Path.{_≡_, refl, sym, ap, _∙_, subst}
+use mathlib.Core.Logic.{_≢_, _⊎_, inl, inr}
+use mathlib.Core.Bool.{Bool, true, false}
+use mathlib.Core.List.{List, [], _∷_, map}
+use native.Mathlib.Omega.{arith}
+use native.Mathlib.Decide.{ℕ-discrete}
+use native.Mathlib.Numerals.{add-one}
+use lib.Dec.{eqb, leb}
+use lib.ListN.{length, getD, set, take, drop, length-set}
+use lib.Seq.{length-take-le}
+use Rattle.paper.specs.declared.Reason.{Reason}
+use Rattle.paper.specs.declared.Reason.the-variants.{ProofField, ProofCode, ProofTwice, NumberNotLive, NumbersUsedUp, ClauseLong}
+use Rattle.paper.specs.declared.Extent.{Extent}
+use Rattle.paper.specs.declared.Fields.{Fields}
+use Rattle.paper.specs.Atoms.{Clause, Formula, Witness}
+use Rattle.paper.specs.Files.{File, Read, ok, bad, _>>_, need, payload, past, codes, mappings, Step, even}
+use Rattle.paper.specs.Conditions.{without, after}
+use Rattle.paper.specs.Refusals.{each, no-two, check-clause, read-fields, check-mappings, check-numbers, to-step, read-step}
+use Rattle.paper.specs.Answers.{Outcome, taken, stops, Judged, deleted}
+use Rattle.paper.proofs.Lists.{Distinct, eqb-same, eqb-other, leb-within}
+use Rattle.paper.proofs.Valid.{Codes, Apart, Kept, Mapping, Listed}
+use Rattle.paper.proofs.Reading.{Then, Ranged, check-clause-then, check-mappings-then, no-two-then, check-numbers-then}
+use Rattle.paper.proofs.Judging.{image-range}
+use Rattle.paper.proofs.Scan.{length-payload}
+use Rattle.lookup.specs.Clause.{proofWord}
+use Rattle.lookup.specs.Live.{live}
+use Rattle.lookup.proofs.Live.{live-used, entered-above}
+use Rattle.table.specs.Table.{Zero, imageOf}
+use Rattle.table.proofs.Kept.{zero-value}
+use Rattle.mapping.specs.Mapping.{Fitting, Bare, variables, loaded, unloaded, saidBy, tableAfter}
+use Rattle.mapping.specs.declared.Loaded.{Loaded}
+use Rattle.mapping.specs.declared.Loaded.the-variants.{Once}
+use Rattle.mapping.specs.declared.Loaded.the-variants as load
+use Rattle.mapping.proofs.Images.{fitting, once-distinct, loaded-length, loaded-value, loaded-image-of, unload-loaded, zero-bare}
+use Rattle.clauses.specs.Check.{clauseSaid}
+use Rattle.clauses.specs.Check as clauses
+use Rattle.clauses.specs.declared.ClauseCheck.{ClauseCheck}
+use Rattle.clauses.specs.declared.ClauseCheck.the-variants as check
+use Rattle.steps.specs.Steps.{Removed}
+use Rattle.steps.proofs.Part.{no-codes}
+use Rattle.steps.proofs.Fields.{Lie, lie}
+use Rattle.steps.proofs.Numbers.{above-kept, live-after}
+use Rattle.steps.proofs.Step.{clause-of, witness-of, numbers-of, fields-refuse, clause-refuses, mappings-refuse, twice-refuses, numbers-refuse, used-up, new-read, delete-read, delete-tag}
+use Rattle.loading.specs.Loading.{Images, Inward}
+use Rattle.loading.specs.Loading as loading
+use Rattle.judging.specs.declared.Judgement.{Judgement}
+use Rattle.judging.specs.declared.Judgement.the-variants.{Passed, Stopped}
+use Rattle.judging.specs.declared.StepAnswer.{StepAnswer}
+use Rattle.judging.specs.declared.StepAnswer.the-variants.{Taken}
+use Rattle.judging.specs.Step as step
+use Rattle.judging.specs.Step.{outcome, New, NewJudged, JudgementIs, unread, judged, Checkable, Loadable, Ready, Done}
+
+pub part-payload : (f : File) (e : Extent) → take (e .start + e .size - e .start) (drop (e .start) f) ≡ payload f e
+unfolding payload
+part-payload f e = let h : e .start + e .size - e .start ≡ e .size = omega arith in rw h
+
+-- 1. The clause. Its place is counted from the step's tag; a DELETE step has none.
+check-empty : (range twice : Reason) (vars tag : ℕ) → check-clause range twice vars tag [] ≡ ok tt
+unfolding check-clause each no-two need _>>_
+check-empty range twice vars tag = rw (leb-within 0 vars (omega arith))
+
+module _ (range twice : Reason) (vars tag at : ℕ) (C : Clause) where
+  empty-said : C ≡ [] → (r : ClauseCheck) → check-clause range twice vars tag C ≡ clauseSaid range twice tag r
+      → check-clause range twice vars at C ≡ clauseSaid range twice at r
+  unfolding clauseSaid
+  empty-said e check.Fine q = rw e (check-empty range twice vars at)
+  empty-said e (check.Range p) q = let z = check-empty range twice vars tag in let y : _≡_ {A = ℕ} 0 1 = cc in absurd (omega arith)
+  empty-said e (check.Twice p) q = let z = check-empty range twice vars tag in let y : _≡_ {A = ℕ} 0 1 = cc in absurd (omega arith)
+  empty-said e check.Long q = let z = check-empty range twice vars tag in let y : _≡_ {A = ℕ} 0 1 = cc in absurd (omega arith)
+
+pub clause-said : (p : File) (at : ℕ) (x : Fields) → Lie p at x → (vars : ℕ) (r : ClauseCheck)
+    → ((range twice : Reason) → check-clause range twice vars (x .clause .start - 3) (clause-of p x) ≡ clauseSaid range twice (x .clause .start - 3) r)
+    → check-clause ProofCode ProofTwice vars at (clause-of p x) ≡ clauseSaid ProofCode ProofTwice at r
+clause-said p at x l vars r said = go (ℕ-discrete (getD p at 0) 0x14)
+  where
+    go : Dec (getD p at 0 ≡ 0x14) → check-clause ProofCode ProofTwice vars at (clause-of p x) ≡ clauseSaid ProofCode ProofTwice at r
+    go (yes e) = empty-said ProofCode ProofTwice vars (x .clause .start - 3) at (clause-of p x) (no-codes p (x .clause) (l .no-new e)) r (said ProofCode ProofTwice)
+    go (no ne) =
+        let s = l .new-start ne in
+        let h : x .clause .start - 3 ≡ at = omega arith in
+        subst (λ (tag : ℕ). check-clause ProofCode ProofTwice vars tag (clause-of p x) ≡ clauseSaid ProofCode ProofTwice tag r) h (said ProofCode ProofTwice)
+
+module _ (p : File) (at : ℕ) (x : Fields) (l : Lie p at x) (vars : ℕ) (r : ClauseCheck)
+    (said : (range twice : Reason) → check-clause range twice vars (x .clause .start - 3) (clause-of p x) ≡ clauseSaid range twice (x .clause .start - 3) r) where
+  pub said-fine : r ≡ check.Fine → check-clause ProofCode ProofTwice vars at (clause-of p x) ≡ ok tt
+  unfolding clauseSaid
+  said-fine e = clause-said p at x l vars r said ∙ ap (clauseSaid ProofCode ProofTwice at) e
+
+  pub said-range : {q : ℕ} → r ≡ check.Range q → check-clause ProofCode ProofTwice vars at (clause-of p x) ≡ bad ProofCode q
+  unfolding clauseSaid
+  said-range e = clause-said p at x l vars r said ∙ ap (clauseSaid ProofCode ProofTwice at) e
+
+  pub said-twice : {q : ℕ} → r ≡ check.Twice q → check-clause ProofCode ProofTwice vars at (clause-of p x) ≡ bad ProofTwice q
+  unfolding clauseSaid
+  said-twice e = clause-said p at x l vars r said ∙ ap (clauseSaid ProofCode ProofTwice at) e
+
+  pub said-long : r ≡ check.Long → check-clause ProofCode ProofTwice vars at (clause-of p x) ≡ bad ClauseLong at
+  unfolding clauseSaid
+  said-long e = clause-said p at x l vars r said ∙ ap (clauseSaid ProofCode ProofTwice at) e
+
+pub checkable : {f p : File} {at vars next : ℕ} {words t : List ℕ} {x : Fields} → Checkable f p at x vars next words t → clauses.Checkable p (x .clause) vars
+checkable {p = p} {at = at} {x = x} c =
+    let l = lie p at x (c .fields) in
+    record { within = l .clause-within; whole = l .clause-even; tagged = omega (arith, l .clause-starts); limit = c .ready .variables }
+
+-- 2. A step that is refused as it is read.
+module _ {f p : File} {at vars next : ℕ} {words t : List ℕ} {x : Fields} (c : Checkable f p at x vars next words t) where
+  abbrev F : Formula
+  F = live f p words
+
+  pub clause-stops : {r : Reason} {q : ℕ} → check-clause ProofCode ProofTwice vars at (clause-of p x) ≡ bad r q
+      → JudgementIs p vars F next at x (Stopped r q)
+  clause-stops e = unread (clause-refuses p vars F next at x (c .fields) _ _ e)
+
+  module _ (fine : check-clause ProofCode ProofTwice vars at (clause-of p x) ≡ ok tt) where
+    pub mappings-stop : {r : Reason} {q : ℕ} → check-mappings vars (x .witness .start) (witness-of p x) ≡ bad r q
+        → JudgementIs p vars F next at x (Stopped r q)
+    mappings-stop e = unread (mappings-refuse p vars F next at x (c .fields) fine _ _ e)
+
+    module _ (mapped : check-mappings vars (x .witness .start) (witness-of p x) ≡ ok tt) where
+      fits : Fitting (witness-of p x)
+      fits = fitting vars (x .witness .start) (witness-of p x) (c .ready .variables) mapped
+
+      long : 8192 ≤ length t
+      long = omega (arith, c .ready .table-long)
+
+      bare : Bare t
+      bare = zero-bare t (c .ready .table-zero)
+
+      -- the payload that is loaded, and the table that it is loaded into
+      module _ (w : List ℕ) (ew : w ≡ payload p (x .witness)) where
+        fours : length w % 4 ≡ 0
+        unfolding past
+        fours =
+            let i = lie p at x (c .fields) in
+            rw (ew, length-payload p (x .witness) (i .witness-within)) (i .witness-fours)
+
+        pub load-asks : (u : List ℕ) → u ≡ t → (8192 ≤ length u) × ((length w % 4 ≡ 0) × (Fitting (mappings (codes w)) × Bare u))
+        load-asks u e = (rw e long, (fours, (rw ew fits, rw e bare)))
+
+        module _ (r : Loaded) (said : (why : Reason) (q : ℕ) → no-two why [] 4 q (variables (mappings (codes w))) ≡ saidBy why q r) (u v : List ℕ)
+            (eu : u ≡ t) (ev : v ≡ tableAfter r u (mappings (codes w))) where
+          -- a variable is mapped twice
+          pub twice-stops : (i : ℕ) → r ≡ load.Twice i → JudgementIs p vars F next at x (Stopped ProofTwice (x .witness .start + i))
+          unfolding saidBy
+          twice-stops i e =
+              unread (twice-refuses p vars F next at x (c .fields) fine mapped _ _ (rw (ew, e) at (said ProofTwice (x .witness .start))))
+
+          pub twice-left : (i : ℕ) → r ≡ load.Twice i → v ≡ t
+          unfolding tableAfter
+          twice-left i e = ev ∙ ap (λ (y : Loaded). tableAfter y u (mappings (codes w))) e ∙ eu
+
+          module _ (e : r ≡ Once) where
+            once : (why : Reason) (q : ℕ) → no-two why [] 4 q (variables (witness-of p x)) ≡ saidBy why q Once
+            once why q = rw (ew, e) at (said why q)
+
+            now-loaded : v ≡ loaded t (witness-of p x)
+            unfolding tableAfter
+            now-loaded = ev ∙ ap (λ (y : Loaded). tableAfter y u (mappings (codes w))) e ∙ rw (eu, ew)
+
+            pub loadable : Loadable f p at x vars next words v
+            unfolding saidBy
+            loadable =
+                rw now-loaded (record {
+                  place = c .ready .place;
+                  last = c .ready .last;
+                  words-long = c .ready .words-long;
+                  unused = c .ready .unused;
+                  kept = c .ready .kept;
+                  fields = c .fields;
+                  clause = fine;
+                  mapped = mapped;
+                  once = once ProofTwice (x .witness .start);
+                  table = record {
+                    small = c .ready .variables;
+                    long = omega (arith, loaded-length (witness-of p x) t, long);
+                    unset = λ i. loaded-value (witness-of p x) t i ∙ zero-value t (c .ready .table-zero) i;
+                  };
+                  images = λ l _ _. loaded-image-of (witness-of p x) t long fits bare (once-distinct (witness-of p x) once) l;
+                })
+
+            -- and unloaded again
+            module _ (y : List ℕ) (ey : y ≡ v) where
+              pub unload-asks : (8192 ≤ length y) × ((length w % 4 ≡ 0) × Fitting (mappings (codes w)))
+              unload-asks = (rw (ey, now-loaded, loaded-length (witness-of p x) t) long, (fours, rw ew fits))
+
+              pub brought-back : (z : List ℕ) → z ≡ unloaded y (mappings (codes w)) → z ≡ t
+              brought-back z ez = ez ∙ rw (ey, now-loaded, ew) (unload-loaded (witness-of p x) t long fits bare)
+
+-- 3. The numbers, the new clause's number, and the conditions.
+module _ {f p : File} {at vars next : ℕ} {words t : List ℕ} {x : Fields} (l : Loadable f p at x vars next words t) where
+  abbrev G : Formula
+  G = live f p words
+
+  abbrev C : Clause
+  C = clause-of p x
+
+  abbrev s : Witness
+  s = witness-of p x
+
+  abbrev ns : List ℕ
+  ns = numbers-of p x
+
+  pub numbers-stop : {r : Reason} {q : ℕ} → check-numbers G 0 (x .numbers .start) ns ≡ bad r q → JudgementIs p vars G next at x (Stopped r q)
+  numbers-stop e = unread (numbers-refuse p vars G next at x (l .fields) (l .clause) (l .mapped) (l .once) _ _ e)
+
+  module _ (fine : check-numbers G 0 (x .numbers .start) ns ≡ ok tt) where
+    pub delete-passes : getD p at 0 ≡ 0x14 → JudgementIs p vars G next at x Passed
+    unfolding outcome
+    delete-passes e =
+        judged {j = Passed} (delete-read p vars G next at x (l .fields) (l .clause) (l .mapped) (l .once) fine e) (λ ne. absurd (ne e))
+        (rw (delete-tag C s ns (getD p at 0) e, eqb-same (getD p at 0) 0x14 e, outcome) deleted)
+
+    pub number-stops : getD p at 0 ≢ 0x14 → 16384 ≤ next → JudgementIs p vars G next at x (Stopped NumbersUsedUp at)
+    number-stops ne h = unread (used-up p vars G next at x (l .fields) (l .clause) (l .mapped) (l .once) fine ne h)
+
+    mapping : Mapping vars s
+    mapping =
+        let r = subst (Then (λ _. Ranged vars s)) (l .mapped) (check-mappings-then vars (x .witness .start) s) in
+        record {
+          variables = λ v a m. ((r v a m) .0, (r v a m) .1);
+          atoms = λ v a m. (r v a m) .2;
+          once = subst (Then (λ _. Distinct (variables s))) (l .once) (no-two-then ProofTwice 4 (x .witness .start) (variables s));
+        }
+
+    -- the numbers in use hold all live clauses
+    used : live f p (take (next - 0) words) ≡ G
+    used = let e : next - 0 ≡ next = omega arith in rw e (live-used f p next words (l .unused))
+
+    pub new : getD p at 0 ≢ 0x14 → next < 16384 → (clause numbers : List ℕ) → clause ≡ payload p (x .clause) → numbers ≡ payload p (x .numbers)
+        → New f p (take (next - 0) words) (getD p at 0) clause numbers vars next t
+    new ne h clause numbers ec en =
+        let i = lie p at x (l .fields) in
+        let c = subst (Then (λ _. Codes vars C × Apart C)) (l .clause) (check-clause-then ProofCode ProofTwice vars at C) in
+        let n = subst (Then (λ _. Listed G 0 ns)) fine (check-numbers-then G 0 (x .numbers .start) ns) in
+        record {
+          from = i .tag-from;
+          to = omega (arith, i .tag-to);
+          limit = omega (arith, length-take-le (next - 0) words (omega (arith, l .words-long)));
+          kept = rw used (l .kept);
+          new = rw ec (record { codes = c .0; apart = c .1; number = h });
+          listed = rw (used, en) n;
+          none-listed = λ b. rw en (no-codes p (x .numbers) (i .no-numbers b));
+          table = l .table;
+          inward = λ k low high. rw (l .images k low (omega (arith, l .table .small))) (image-range vars s k (mapping .atoms) high);
+        }
+
+    pub new-judged : getD p at 0 ≢ 0x14 → next < 16384 → (clause numbers : List ℕ) → clause ≡ payload p (x .clause) → numbers ≡ payload p (x .numbers)
+        → (r : Judgement) → NewJudged f p (take (next - 0) words) (getD p at 0) clause numbers vars next t r → JudgementIs p vars G next at x r
+    new-judged ne h clause numbers ec en r j =
+        judged (new-read p vars G next at x (l .fields) (l .clause) (l .mapped) (l .once) fine ne h) (λ _. h)
+        (rw (used, ec, en) at (j s mapping (l .images)))
+
+-- 4. The step taken into the clause table.
+module _ {f p : File} {at vars next : ℕ} {words t : List ℕ} (r : Ready f p at vars next words t) where
+  pub fields-stop : {q : ℕ} → read-fields p at ≡ bad ProofField q → Done f p at vars next words t (StepAnswer.Stopped ProofField q) words t
+  fields-stop e = record { answer = step.unread (fields-refuse p vars (live f p words) next at _ _ e); after = refl; table = refl }
+
+  module _ (x : Fields) (u : List ℕ) (same : u ≡ t) where
+    pub step-stopped : {why : Reason} {q : ℕ} → JudgementIs p vars (live f p words) next at x (Stopped why q)
+        → Done f p at vars next words t (StepAnswer.Stopped why q) words u
+    unfolding outcome
+    step-stopped (unread e) = record { answer = step.unread e; after = refl; table = same }
+    step-stopped (judged e h j) = record { answer = step.refused e j; after = refl; table = same }
+
+    module _ (fields : read-fields p at ≡ ok x) (us : List ℕ) (cleared : Removed p (numbers-of p x) words us)
+        (passed : JudgementIs p vars (live f p words) next at x Passed) where
+      pub deleted-done : getD p at 0 ≡ 0x14 → Done f p at vars next words t (Taken next (x .next)) us u
+      unfolding outcome
+      deleted-done e = go passed
+        where
+          go : JudgementIs p vars (live f p words) next at x Passed → Done f p at vars next words t (Taken next (x .next)) us u
+          go (judged {t = s} q h j) =
+              record {
+                answer = step.goes-on {m = next} {G = live f p us} q
+                    (rw (cleared .live-now f) (subst (λ (b : Bool). Judged (live f p words) next s
+                    (elim b [ true ↦ taken (without (numbers-of p x) (live f p words)) next | false ↦ taken (after (numbers-of p x) next (clause-of p x) (live f p words)) (suc next) ]))
+                    (eqb-same (getD p at 0) 0x14 e) j));
+                after = (cleared .same-length, r .last, above-kept cleared next (r .unused));
+                table = same;
+              }
+
+      pub number-free : getD p at 0 ≢ 0x14 → next < 16384
+      number-free ne = go passed
+        where
+          go : JudgementIs p vars (live f p words) next at x Passed → next < 16384
+          go (judged q h j) = h ne
+
+      pub added-done : getD p at 0 ≢ 0x14 → (ws : List ℕ) (w : ℕ) → ws ≡ set us next w → w ≡ proofWord at
+          → Done f p at vars next words t (Taken (next + 1) (x .next)) ws u
+      unfolding outcome
+      added-done ne ws w ew at-word = go passed
+        where
+          e : ws ≡ set us next (proofWord at)
+          e = ew ∙ ap (λ (y : ℕ). set us next y) at-word
+
+          small : next < 16384
+          small = number-free ne
+
+          now : live f p ws ≡ after (numbers-of p x) next (clause-of p x) (live f p words)
+          now =
+              ap (live f p) e
+              ∙ live-after cleared ProofField (getD p at 0) even f at (x .clause) (omega (arith, r .place, r .proof-short)) next (r .unused)
+              (omega (arith, small, r .words-long)) ((lie p at x fields) .new ne)
+
+          go : JudgementIs p vars (live f p words) next at x Passed → Done f p at vars next words t (Taken (next + 1) (x .next)) ws u
+          go (judged {t = s} q h j) =
+              record {
+                answer = rw add-one (step.goes-on {m = suc next} {G = live f p ws} q
+                    (rw now (subst (λ (b : Bool). Judged (live f p words) next s
+                    (elim b [ true ↦ taken (without (numbers-of p x) (live f p words)) next | false ↦ taken (after (numbers-of p x) next (clause-of p x) (live f p words)) (suc next) ]))
+                    (eqb-other (getD p at 0) 0x14 ne) j)));
+                after = (
+                  ap length e ∙ length-set us next (proofWord at) ∙ cleared .same-length,
+                  omega (arith, small),
+                  (λ k b. ap (λ (y : List ℕ). getD y k 0) e ∙ entered-above f p us next (proofWord at) (above-kept cleared next (r .unused)) k b),
+                );
+                table = same;
+              }
