@@ -1,10 +1,10 @@
 -- What the sweeps' clash says of a clause, whether one passes, and how the table comes back.
 -- Assumes nothing.
 use Prim.Native.Nat.{ℕ, _+_, _*_, _≤_, _<_}
-use mathlib.Core.Path.{_≡_, refl, sym, ap, _∙_, subst}
+use mathlib.Core.Path.{_≡_, refl, sym, _∙_}
 use mathlib.Core.Logic.{_↔_, _⊎_, inl, inr}
-use mathlib.Core.Bool.{Bool, true, false, true≢false, false≢true}
-use mathlib.Core.List.{List, [], _∷_, _++_, map}
+use mathlib.Core.Bool.{true, false, true≢false}
+use mathlib.Core.List.{List, _++_, map}
 use native.Mathlib.Omega.{arith}
 use lib.ListN.{length}
 use Rattle.paper.specs.Atoms.{complement, _∈_, Clause, Formula, Witness}
@@ -21,7 +21,7 @@ use Rattle.loading.proofs.Opposed.{Within, within-back, Opposes, clause-opposed
 use Rattle.sweep.specs.declared.Propagation.{Propagation}
 use Rattle.sweep.specs.Swept.{stateOf}
 use Rattle.propagation.specs.Propagated.{begun, Propagable, Propagated}
-use Rattle.propagation.proofs.Laws.{valid-more, propagated-clash, propagated-beyond}
+use Rattle.propagation.proofs.Laws.{propagable, propagated-clash, propagated-beyond}
 use Rattle.conditions.specs.Asked.{Asked}
 
 module _ (f p : File) (ws : List ℕ) (C : Clause) (vars : ℕ) (t : List ℕ) (asked : Asked f p ws C vars t) where
@@ -46,11 +46,7 @@ module _ (f p : File) (ws : List ℕ) (C : Clause) (vars : ℕ) (t : List ℕ) (
   module _ (u : List ℕ) (w : Within vars t u) where
     pub within-propagable : Propagable f p ws u
     within-propagable =
-        record {
-          long = omega (arith, w .kept .long, asked .ready .long);
-          numbers = asked .numbers;
-          codes = valid-more vars 4095 F (asked .ready .small) (asked .valid) .codes;
-        }
+        propagable vars f p ws u (asked .ready .small) (asked .valid) (asked .numbers) (omega (arith, w .kept .long, asked .ready .long))
 
     pub within-cleared : clearValues vars u ≡ t
     within-cleared = within-back vars t u (asked .ready .unset) w

@@ -1,23 +1,23 @@
 -- The search by rising number: MODULO read along with the numbers, and what holds of the numbers passed.
 -- Assumes nothing.
-use Prim.Native.Nat.{ℕ, zero, suc, _+_, _-_, _≤_, _<_}
+use Prim.Native.Nat.{ℕ, suc, _+_, _-_, _≤_, _<_}
 use mathlib.Core.Path.{_≡_, refl, sym, ap, _∙_, subst}
-use mathlib.Core.Logic.{_≢_, _⊎_, inl, inr}
+use mathlib.Core.Logic.{_≢_}
 use mathlib.Core.Bool.{Bool, true, false, not, true≢false, false≢true}
 use mathlib.Core.List.{List, [], _∷_, List·Memᴰ·head, List·Memᴰ·tail}
 use native.Mathlib.Omega.{arith}
-use native.Mathlib.Decide.{ℕ-discrete, decLt}
+use native.Mathlib.Decide.{decLt}
 use lib.Dec.{eqb}
 use lib.ListN.{length, getD, drop}
 use Rattle.paper.specs.Atoms.{_∈_, Clause, Formula, Live, Witness}
 use Rattle.paper.specs.Files.{File, two, codes}
-use Rattle.paper.specs.Conditions.{Passes, Lowest}
+use Rattle.paper.specs.Conditions.{Passes}
 use Rattle.paper.proofs.Lists.{eqb-yes, eqb-no}
 use Rattle.paper.proofs.Valid.{Codes, Listed}
 use Rattle.paper.proofs.Scan.{codes-next, codes-end}
 use Rattle.lookup.specs.Clause.{clauseBytes}
 use Rattle.lookup.specs.Live.{live}
-use Rattle.lookup.proofs.Live.{Word, live-in, live-out}
+use Rattle.lookup.proofs.Live.{live-in, live-out}
 use Rattle.loading.specs.Loading.{Inward, Images, Decides}
 use Rattle.conditions.specs.declared.Failing.the-variants.{Nothing, At}
 use Rattle.conditions.specs.Asked.{Asked, Finds, first-is}

@@ -1,3 +1,4 @@
 pub mod Turns
 pub mod Opposed
 pub mod Trivial
+pub mod State

@@ -1,28 +1,27 @@
 -- Which literals are true in the table after the complements of a clause's literals, or of their images, are made true.
 -- Assumes nothing.
-use Prim.Native.Nat.{ℕ, zero, suc, _+_, _*_, _/_, _%_, _≤_, _<_}
+use Prim.Native.Nat.{ℕ, suc, _+_, _*_, _/_, _%_, _≤_, _<_}
 use mathlib.Core.Path.{_≡_, refl, sym, ap, _∙_, subst}
 use mathlib.Core.Logic.{_≢_, _⊎_, inl, inr}
-use mathlib.Core.Bool.{Bool, true, false, true≢false, false≢true}
+use mathlib.Core.Bool.{Bool, true, false, true≢false}
 use mathlib.Core.List.{List, [], _∷_, _++_, map, List·Memᴰ·head, List·Memᴰ·tail, List·Memᴰ·append-cases, Memᴰ·append-left, Memᴰ·append-right}
 use native.Mathlib.Omega.{arith}
 use native.Mathlib.Decide.{ℕ-discrete, decLt}
-use lib.Dec.{eqb}
-use lib.ListN.{length, getD, List·getD-eq-default}
+use lib.ListN.{length, List·getD-eq-default}
 use Rattle.paper.specs.Atoms.{complement, _∈_, Clause, Formula, Witness}
-use Rattle.paper.specs.Conditions.{image, Derived, given, under, Trivialises, to-true, to-complements}
+use Rattle.paper.specs.Conditions.{image, given, under, Trivialises, to-true, to-complements}
 use Rattle.paper.specs.Sweeps.{Values, is-true, put, State}
-use Rattle.paper.proofs.Lists.{complement-twice, complement-half, complement-inj, Distinct, eqb-yes, eqb-other, map-in, map-out, under-in, under-out, under-not-false}
+use Rattle.paper.proofs.Lists.{complement-twice, complement-half, complement-inj, eqb-yes, eqb-other, map-in, map-out, under-in, under-out, under-not-false}
 use Rattle.paper.proofs.Valid.{Codes, Apart}
 use Rattle.paper.proofs.Values.{true-at, never-both, put-out, put-in, put-keep}
 use Rattle.paper.proofs.Propagation.{Fits, Loaded}
-use Rattle.table.specs.Table.{Kept, valueAt, imageOf, setValue, values, clearValues}
+use Rattle.table.specs.Table.{Kept, valueAt, imageOf, values, clearValues}
 use Rattle.table.proofs.Laws.{value-same, value-other}
 use Rattle.table.proofs.Values.{values-length, values-at, is-true-values, put-values}
 use Rattle.table.proofs.Kept.{kept-refl, kept-setValue, kept-image-of, cleared}
 use Rattle.loading.specs.declared.Assumed.{Assumed}
 use Rattle.loading.specs.declared.Assumed.the-variants.{Passes, Open}
-use Rattle.loading.specs.Loading.{trueAt, makeTrue, assumed, Outcome, imaged, Unset, Inward, Images}
+use Rattle.loading.specs.Loading.{trueAt, makeTrue, assumed, Outcome, imaged, Unset, Inward}
 use Rattle.loading.proofs.Turns.{assumed-next, assumed-end, imaged-end, imaged-true, imaged-false, imaged-already, imaged-next}
 
 -- 1. What is true after a literal is made true, by the paper's laws of values.
@@ -416,7 +415,7 @@ module _ (vars : ℕ) (t₀ : List ℕ) (long : vars * 2 < length t₀) (s : Wit
 
 -- 6. The table as a state of the propagation: what is true is what is assumed.
 -- a literal that is true is one of the variables that have values
-value-of-true : (t : List ℕ) (l : ℕ) → trueAt t l ≡ true → valueAt t (l / 2) ≡ suc (l % 2)
+pub value-of-true : (t : List ℕ) (l : ℕ) → trueAt t l ≡ true → valueAt t (l / 2) ≡ suc (l % 2)
 value-of-true t l q = eqb-yes (valueAt t (l / 2)) (suc (l % 2)) q
 
 module _ (vars n : ℕ) (t₀ t : List ℕ) (B : Clause) (h : vars ≤ n) (o : Opposes vars t₀ t B) where

@@ -1,7 +1,7 @@
 -- The answer of `trivialises`, and the table after it.
 -- Assumes nothing.
 use Prim.Native.Nat.{ℕ, _+_, _*_, _≤_, _<_}
-use mathlib.Core.Path.{_≡_, refl, sym}
+use mathlib.Core.Path.{_≡_, sym}
 use mathlib.Core.Logic.{_⊎_, inl, inr}
 use mathlib.Core.Bool.{true, false, true≢false, false≢true}
 use mathlib.Core.List.{List, []}
@@ -10,10 +10,11 @@ use lib.ListN.{length}
 use Rattle.paper.specs.Atoms.{complement, _∈_, Clause, Witness}
 use Rattle.paper.specs.Conditions.{image, Trivialises, under}
 use Rattle.paper.proofs.Valid.{Codes}
+use Rattle.paper.proofs.Judging.{Atoms, image-range}
 use Rattle.table.specs.Table.{imageOf, clearValues}
 use Rattle.loading.specs.declared.Assumed.the-variants.{Passes, Open}
 use Rattle.loading.specs.Loading.{Storable, imaged, Ready, Inward, Images, Decides}
-use Rattle.loading.proofs.Opposed.{Opposes, opposes-start, within-start, within-back, imaged-within, images-pass, images-not-trivial}
+use Rattle.loading.proofs.Opposed.{opposes-start, within-start, within-back, imaged-within, images-pass, images-not-trivial}
 
 -- codes of the variables fit the table
 pub codes-storable : (vars : ℕ) (C : Clause) → vars ≤ 4095 → Codes vars C → Storable C
@@ -50,3 +51,10 @@ module _ (vars : ℕ) (t : List ℕ) (ready : Ready vars t) (inward : Inward var
           yes = λ q. absurd (false≢true q);
           no = λ _. images-not-trivial vars t long s near inward D codes [] t (opposes-start vars t (ready .unset)) (sym e);
         }
+
+-- the images of a witness whose atoms are in range
+pub images-inward : (vars : ℕ) (t : List ℕ) (s : Witness) → vars ≤ 4095 → Images t s → Atoms vars s → Inward vars t
+images-inward vars t s small images atoms l h k =
+    let e = images l h (omega arith) in
+    let r = image-range vars s l atoms k in
+    omega arith

@@ -6,13 +6,12 @@ use mathlib.Core.Logic.{_≢_}
 use mathlib.Core.Bool.{true, false}
 use mathlib.Core.List.{List, [], _∷_, List·Memᴰ·head, List·Memᴰ·tail}
 use native.Mathlib.Omega.{arith}
-use lib.Dec.{eqb}
 use lib.ListN.{length, drop}
-use Rattle.paper.specs.Atoms.{complement, _∈_, Clause}
+use Rattle.paper.specs.Atoms.{complement, Clause}
 use Rattle.paper.specs.Files.{two, codes}
 use Rattle.paper.proofs.Lists.{eqb-same, eqb-other}
 use Rattle.paper.proofs.Scan.{codes-next, codes-end}
-use Rattle.table.specs.Table.{valueAt, imageOf, setValue}
+use Rattle.table.specs.Table.{imageOf}
 use Rattle.table.proofs.Laws.{length-setValue}
 use Rattle.loading.specs.declared.Assumed.{Assumed}
 use Rattle.loading.specs.declared.Assumed.the-variants.{Passes, Open}

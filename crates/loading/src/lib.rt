@@ -1,7 +1,7 @@
 // Literals assumed in the table of the variables: the complements of a new clause's literals, and those of the images of
 // another clause's literals, which finds on the way whether the witness trivialises that clause.
 ghost use mathlib.Core.Path.{_≡_};
-ghost use Prim.Native.Nat.{ℕ, _<_, _≤_};
+ghost use Prim.Native.Nat.{_<_, _≤_};
 ghost use lib.ListN.{length};
 ghost use Rattle.paper.specs.Atoms.{complement, Witness};
 ghost use Rattle.paper.specs.Files.{codes};

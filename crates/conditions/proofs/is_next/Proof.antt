@@ -3,9 +3,6 @@ use borrow.Author.Needs.{needs}
 use Rattle.conditions.proofs.Search.{first-none, first-here}
 use Rattle.conditions.proofs.is_next.Statement.{statement}
 use Rattle.conditions.proofs.is_next.Tie as tie
-use Rattle.conditions.proofs.is_next.Reads as reads
-use Rattle.conditions.proofs.is_next.Lts as lts
-use Rattle.field.proofs.pair_at.Reads as pair-at-reads
 
 sub-if1 : tie.Need-sub-if1
 sub-if1 c = search needs

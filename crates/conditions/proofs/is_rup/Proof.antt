@@ -1,5 +1,5 @@
 -- `conditions::is_rup` meets its contract. Assumes nothing.
-use mathlib.Core.Path.{_≡_, ap, _∙_}
+use mathlib.Core.Path.{_∙_}
 use borrow.Author.Needs.{needs}
 use Rattle.conditions.proofs.Answers.{clause-fits, clause-state, within-propagable, propagated-cleared, clash-decides}
 use Rattle.conditions.proofs.is_rup.Statement.{statement}

@@ -1,8 +1,7 @@
 -- `conditions::lowest_failing` meets its contract. Assumes nothing.
-use Prim.Native.Nat.{ℕ, _+_, _-_, _≤_, _<_}
-use mathlib.Core.Path.{_≡_, sym, ap, _∙_, subst}
+use Prim.Native.Nat.{_+_, _-_}
+use mathlib.Core.Path.{sym, ap, _∙_}
 use mathlib.Core.Logic.{⊎-elim}
-use mathlib.Core.List.{List}
 use native.Mathlib.Omega.{arith}
 use borrow.Author.Needs.{needs}
 use lib.ListN.{length}
@@ -10,11 +9,6 @@ use Rattle.paper.specs.Files.{codes}
 use Rattle.conditions.proofs.Search.{Searching, searching-start, searching-same, searching-end, turn-named, turn-dead, turn-passes, turn-fails, number-asked}
 use Rattle.conditions.proofs.lowest_failing.Statement.{statement}
 use Rattle.conditions.proofs.lowest_failing.Tie as tie
-use Rattle.conditions.proofs.lowest_failing.Reads as reads
-use Rattle.conditions.proofs.lowest_failing.Lts as lts
-use Rattle.conditions.proofs.is_next.Reads as is-next-reads
-use Rattle.conditions.proofs.passes.Reads as passes-reads
-use Rattle.lookup.proofs.clause_at.Reads as clause-at-reads
 
 abbrev Inv-loop : tie.InvT-loop
 Inv-loop formula proof words clause modulo vars t₀ n₀ at₀ t n at = Searching formula proof words (codes clause) modulo t₀ t n at

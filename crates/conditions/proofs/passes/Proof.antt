@@ -1,8 +1,6 @@
 -- `conditions::passes` meets its contract. Assumes nothing.
-use mathlib.Core.Path.{_≡_, sym, ap, _∙_}
-use native.Mathlib.Omega.{arith}
+use mathlib.Core.Path.{sym, _∙_}
 use borrow.Author.Needs.{needs}
-use Rattle.table.specs.Table.{clearValues}
 use Rattle.conditions.proofs.Answers.{clause-fits, clause-state, within-propagable, within-cleared, propagated-cleared, images-fit, images-leave, passes-by-images, passes-by-clash}
 use Rattle.conditions.proofs.passes.Statement.{statement}
 use Rattle.conditions.proofs.passes.Tie as tie

@@ -1,25 +1,16 @@
 -- `loading::assume_images` meets its contract. Assumes nothing.
-use Prim.Native.Nat.{ℕ, _≤_, _<_, _-_, _+_}
-use mathlib.Core.Path.{_≡_, refl, sym, ap, subst, _∙_}
+use Prim.Native.Nat.{ℕ, _≤_, _-_, _+_}
+use mathlib.Core.Path.{sym, ap, subst, _∙_}
 use mathlib.Core.Logic.{⊎-elim}
 use mathlib.Core.List.{List}
 use native.Mathlib.Omega.{arith}
 use borrow.Author.Needs.{needs}
-use lib.ListN.{length, drop}
-use Rattle.paper.specs.Atoms.{complement}
-use Rattle.paper.specs.Files.{codes}
+use lib.ListN.{length}
 use Rattle.table.specs.Table.{imageOf}
-use Rattle.loading.specs.Loading.{makeTrue, trueAt, Outcome, imaged}
-use Rattle.loading.proofs.Turns.{imaged-end, Going, going-start, going-end, going-here, going-next, image-true, image-false, image-already, image-next, both-halves}
+use Rattle.loading.specs.Loading.{makeTrue, imaged}
+use Rattle.loading.proofs.Turns.{imaged-end, Going, going-start, going-end, going-here, image-true, image-false, image-already, image-next, both-halves}
 use Rattle.loading.proofs.assume_images.Statement.{statement}
 use Rattle.loading.proofs.assume_images.Tie as tie
-use Rattle.loading.proofs.assume_images.Reads as reads
-use Rattle.loading.proofs.assume_images.Lts as lts
-use Rattle.field.proofs.pair_at.Reads as pair-at-reads
-use Rattle.loading.proofs.opposite.Reads as opposite-reads
-use Rattle.table.proofs.image_of.Reads as image-of-reads
-use Rattle.table.proofs.is_true.Reads as is-true-reads
-use Rattle.table.proofs.make_true.Reads as make-true-reads
 
 abbrev Inv-loop : tie.InvT-loop
 Inv-loop clause t₀ i₀ t i = (i ≤ length clause) × Going imaged clause t₀ t i

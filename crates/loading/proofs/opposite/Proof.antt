@@ -1,5 +1,4 @@
 -- `loading::opposite` meets its contract. Assumes nothing.
-use native.Mathlib.Omega.{arith}
 use borrow.Author.Needs.{needs}
 use Rattle.paper.specs.Atoms.{complement}
 use Rattle.loading.proofs.opposite.Statement.{statement}

@@ -1,7 +1,5 @@
 -- `loading::trivialises` meets its contract. Assumes nothing.
-use Prim.Native.Nat.{ℕ}
-use mathlib.Core.Path.{_≡_, sym, ap, _∙_}
-use native.Mathlib.Omega.{arith}
+use mathlib.Core.Path.{sym, ap, _∙_}
 use borrow.Author.Needs.{needs}
 use Rattle.table.specs.Table.{clearValues}
 use Rattle.loading.proofs.Trivial.{codes-storable, trivial-back, trivial-yes, trivial-no}
