@@ -1,17 +1,16 @@
 -- The checks of a clause in the paper's order, from what the looks for a wrong code and for a variable that stands twice have said.
 -- Assumes nothing.
-use Prim.Native.Nat.{ℕ, zero, suc, _+_, _*_, _-_, _/_, _%_, _≤_, _<_}
-use mathlib.Core.Path.{_≡_, refl, sym, ap, _∙_, subst}
-use mathlib.Core.Bool.{Bool, true, false}
-use mathlib.Core.List.{List, [], _∷_, map}
+use Prim.Native.Nat.{ℕ, _+_, _*_, _-_, _/_, _≤_, _<_}
+use mathlib.Core.Path.{_≡_, refl, ap, _∙_, subst}
+use mathlib.Core.Bool.{true}
+use mathlib.Core.List.{List, [], _∷_}
 use native.Mathlib.Omega.{arith}
-use lib.Dec.{leb}
 use lib.ListN.{length}
 use Rattle.paper.specs.declared.Reason.{Reason}
-use Rattle.paper.specs.declared.Reason.the-variants.{FormulaCode, ClauseLong}
+use Rattle.paper.specs.declared.Reason.the-variants.{FormulaCode}
 use Rattle.paper.specs.declared.Extent.{Extent}
-use Rattle.paper.specs.Atoms.{_∈_, Clause}
-use Rattle.paper.specs.Files.{File, Read, ok, bad, _>>_, need, payload, past, codes}
+use Rattle.paper.specs.Atoms.{_∈_}
+use Rattle.paper.specs.Files.{File, _>>_, need, payload, past, codes}
 use Rattle.paper.specs.Refusals.{each, no-two, between, check-clause}
 use Rattle.paper.proofs.Lists.{leb-within, leb-beyond}
 use Rattle.paper.proofs.Reading.{Then, each-then, between-yes}

@@ -1,18 +1,17 @@
 -- Marks in the table of the variables: the loop that sets them until it meets a variable that has one, and the loop that clears them.
 -- Assumes nothing.
-use Prim.Native.Nat.{ℕ, zero, suc, _+_, _*_, _-_, _/_, _%_, _≤_, _<_}
+use Prim.Native.Nat.{ℕ, _+_, _*_, _-_, _/_, _≤_, _<_}
 use mathlib.Core.Path.{_≡_, refl, sym, ap, _∙_, subst}
 use mathlib.Core.Logic.{_≢_}
 use mathlib.Core.Bool.{Bool, true, false}
-use mathlib.Core.List.{List, [], _∷_, map, List·Memᴰ·head, List·Memᴰ·tail}
+use mathlib.Core.List.{List, [], _∷_, List·Memᴰ·head, List·Memᴰ·tail}
 use native.Mathlib.Omega.{arith}
 use native.Mathlib.Decide.{ℕ-discrete}
-use lib.Dec.{eqb}
 use lib.ListN.{length}
 use Rattle.paper.specs.declared.Reason.{Reason}
 use Rattle.paper.specs.declared.Extent.{Extent}
 use Rattle.paper.specs.Atoms.{_∈_, Clause}
-use Rattle.paper.specs.Files.{File, Read, ok, bad, two, payload, codes}
+use Rattle.paper.specs.Files.{File, bad, two, payload, codes}
 use Rattle.paper.specs.Conditions.{is-in}
 use Rattle.paper.specs.Refusals.{no-two}
 use Rattle.paper.proofs.Lists.{eqb-same, eqb-other}

@@ -1,21 +1,18 @@
 -- The loop that looks for the first code that fails a test.
 -- Assumes nothing.
-use Prim.Native.Nat.{ℕ, _+_, _*_, _≤_, _<_}
+use Prim.Native.Nat.{ℕ, _+_, _≤_, _<_}
 use mathlib.Core.Path.{_≡_, refl, sym, ap, _∙_}
-use mathlib.Core.Bool.{Bool, true, false, _&&_}
-use mathlib.Core.List.{List, [], _∷_}
-use native.Mathlib.Omega.{arith}
-use lib.Dec.{leb}
-use lib.ListN.{length}
+use mathlib.Core.Bool.{Bool, true, false}
+use mathlib.Core.List.{List, _∷_}
 use Rattle.paper.specs.declared.Reason.{Reason}
 use Rattle.paper.specs.declared.Extent.{Extent}
-use Rattle.paper.specs.Files.{File, Read, ok, bad, two, payload, codes}
+use Rattle.paper.specs.Files.{File, bad, two, payload, codes}
 use Rattle.paper.specs.Refusals.{each, between}
 use Rattle.paper.proofs.Lists.{leb-within, leb-beyond}
 use Rattle.clauses.specs.declared.First.{First}
 use Rattle.clauses.specs.declared.First.the-variants.{At, Nowhere}
 use Rattle.clauses.specs.Check.{placeSaid}
-use Rattle.clauses.proofs.Parts.{part, part-payload, Walk, walk-start, walk-turn, walk-code, walk-end}
+use Rattle.clauses.proofs.Parts.{part, part-payload, Walk, walk-turn, walk-code, walk-end}
 
 -- the test by the code's comparisons
 module _ (low high x : ℕ) where

@@ -1,12 +1,10 @@
 -- One clause as the code reads it, against the paper's reading of the clauses.
 -- Assumes nothing.
-use Prim.Native.Nat.{ℕ, zero, suc, _+_, _-_, _%_, _≤_, _<_}
+use Prim.Native.Nat.{ℕ, suc, _+_, _-_, _%_, _≤_, _<_}
 use mathlib.Core.Path.{_≡_, refl, sym, ap, subst, _∙_}
-use mathlib.Core.Bool.{Bool, true, false}
-use mathlib.Core.List.{List, [], _∷_, _++_, append-nil, append-assoc}
+use mathlib.Core.List.{[], _∷_, _++_, append-nil, append-assoc}
 use native.Mathlib.Omega.{arith}
 use borrow.Author.Tests.{lt-ltb, le-ltb}
-use lib.Dec.{ltb}
 use lib.ListN.{length}
 use Rattle.paper.specs.declared.Reason.{Reason}
 use Rattle.paper.specs.declared.Reason.the-variants.{FormulaField, FormulaCode, FormulaTwice, FormulaEnd}
@@ -15,9 +13,8 @@ use Rattle.paper.specs.Atoms.{Clause, Formula}
 use Rattle.paper.specs.Files.{File, Read, ok, bad, _>>=_, _>>_, need, payload, past, field, even, codes}
 use Rattle.paper.specs.Refusals.{check-clause, read-clauses}
 use Rattle.paper.proofs.Lists.{eqb-yes}
-use Rattle.field.proofs.Laws.{Stands, stands}
+use Rattle.field.proofs.Laws.{stands}
 use Rattle.clauses.specs.declared.ClauseCheck.{ClauseCheck}
-use Rattle.clauses.specs.declared.ClauseCheck.the-variants.{Fine, Range, Twice, Long}
 use Rattle.clauses.specs.Check.{Checkable, clauseSaid}
 use Rattle.reading.specs.declared.ClauseRead.{ClauseRead}
 use Rattle.reading.specs.Reading.{prepend, ClauseTaken, ClauseSaid}

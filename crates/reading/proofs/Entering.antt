@@ -1,15 +1,15 @@
 -- The loop over the clauses: those entered so far, in front of what the paper reads from here on, are what it reads in all.
 -- Assumes nothing.
-use Prim.Native.Nat.{ℕ, zero, suc, _+_, _-_, _≤_, _<_}
+use Prim.Native.Nat.{ℕ, suc, _+_, _-_, _≤_, _<_}
 use mathlib.Core.Path.{_≡_, refl, sym, ap, _∙_}
-use mathlib.Core.List.{List, [], _∷_, _++_}
+use mathlib.Core.List.{List, [], _∷_}
 use native.Mathlib.Omega.{arith}
 use native.Mathlib.Numerals.{add-one}
 use lib.ListN.{length, getD, set, length-set}
 use Rattle.paper.specs.declared.Reason.{Reason}
 use Rattle.paper.specs.declared.Reason.the-variants.{FormulaField}
 use Rattle.paper.specs.Atoms.{Formula}
-use Rattle.paper.specs.Files.{File, Read, ok, bad, payload, even, codes}
+use Rattle.paper.specs.Files.{File, bad, payload, even, codes}
 use Rattle.paper.specs.Refusals.{read-clauses}
 use Rattle.table.specs.Table.{Zero}
 use Rattle.lookup.specs.Clause.{formulaWord}

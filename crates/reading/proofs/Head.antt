@@ -1,17 +1,15 @@
 -- HEAD as the code reads it, against the paper's reading of the formula.
 -- Assumes nothing.
-use Prim.Native.Nat.{ℕ, _+_, _≤_, _<_}
-use mathlib.Core.Path.{_≡_, refl, sym, ap, _∙_}
-use mathlib.Core.Bool.{Bool, true, false, _&&_}
+use Prim.Native.Nat.{ℕ, _≤_, _<_}
+use mathlib.Core.Path.{_≡_}
 use native.Mathlib.Omega.{arith}
-use lib.Dec.{leb}
 use lib.ListN.{length}
 use Rattle.paper.specs.declared.Reason.the-variants.{FormulaField, OverLimit}
 use Rattle.paper.specs.declared.Extent.{Extent}
 use Rattle.paper.specs.Files.{File, ok, bad, _>>=_, _>>_, need, two, past, field, four}
 use Rattle.paper.specs.Refusals.{read-formula}
 use Rattle.paper.proofs.Lists.{eqb-yes, leb-within, leb-beyond}
-use Rattle.field.proofs.Laws.{Stands, stands}
+use Rattle.field.proofs.Laws.{stands}
 use Rattle.reading.specs.Reading.{HeadTaken, ended}
 
 module _ (f : File) where

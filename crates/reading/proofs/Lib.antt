@@ -1,3 +1,4 @@
 pub mod Head
 pub mod Clause
 pub mod Entering
+pub mod Formula

@@ -1,5 +1,5 @@
 -- What the reading of the formula says, and the clause table that it leaves.
-use Prim.Native.Nat.{ℕ, zero, suc, _+_, _≤_, _<_}
+use Prim.Native.Nat.{ℕ, suc, _+_, _≤_, _<_}
 use mathlib.Core.Path.{_≡_}
 use mathlib.Core.List.{List, [], _∷_, _++_}
 use lib.Dec.{leb}
@@ -7,8 +7,8 @@ use lib.ListN.{length, getD}
 use Rattle.paper.specs.declared.Reason.{Reason}
 use Rattle.paper.specs.declared.Reason.the-variants.{FormulaField, FormulaEnd}
 use Rattle.paper.specs.declared.Extent.{Extent}
-use Rattle.paper.specs.Atoms.{Clause, Formula}
-use Rattle.paper.specs.Files.{File, Read, ok, bad, _>>=_, _>>_, need, payload, past, field, even, codes}
+use Rattle.paper.specs.Atoms.{Formula}
+use Rattle.paper.specs.Files.{File, Read, ok, bad, _>>=_, _>>_, need, payload, field, even, codes}
 use Rattle.paper.specs.Refusals.{read-clauses, read-formula}
 use Rattle.lookup.specs.Live.{live}
 use Rattle.reading.specs.declared.HeadRead.{HeadRead}

@@ -1,6 +1,5 @@
 -- `clauses::first_out_of_range` meets its contract. Assumes nothing.
 use Prim.Native.Nat.{_+_, _*_, _-_}
-use native.Mathlib.Omega.{arith}
 use borrow.Author.Needs.{needs}
 use Rattle.paper.specs.Refusals.{between}
 use Rattle.clauses.proofs.Parts.{walk-start, walk-inside}

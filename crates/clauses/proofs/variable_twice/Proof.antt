@@ -1,8 +1,6 @@
 -- `clauses::variable_twice` meets its contract. Assumes nothing.
 use borrow.Author.Needs.{needs}
 use mathlib.Core.Path.{refl, _∙_}
-use native.Mathlib.Omega.{arith}
-use Rattle.clauses.specs.declared.First.the-variants.{At, Nowhere}
 use Rattle.clauses.specs.Check.{upTo}
 use Rattle.clauses.proofs.Marks.{looked-as, looked-cleared}
 use Rattle.clauses.proofs.variable_twice.Statement.{statement}

@@ -1,10 +1,13 @@
 -- `reading::read_clause` meets its contract. Assumes nothing.
 use borrow.Author.Needs.{needs}
-use mathlib.Core.Path.{refl, sym, _∙_}
-use native.Mathlib.Omega.{arith}
-use Rattle.paper.specs.declared.Reason.the-variants.{FormulaField}
-use Rattle.paper.specs.Files.{even}
+use Prim.Native.Nat.{ℕ, suc}
+use mathlib.Core.Path.{_≡_, refl, sym, _∙_}
+use Rattle.paper.specs.declared.Reason.{Reason}
+use Rattle.paper.specs.declared.Reason.the-variants.{FormulaField, FormulaCode, FormulaTwice}
+use Rattle.paper.specs.Files.{bad, even}
+use Rattle.paper.specs.Refusals.{read-clauses}
 use Rattle.field.proofs.Laws.{found, wrong, found-stands}
+use Rattle.clauses.specs.declared.ClauseCheck.{ClauseCheck}
 use Rattle.clauses.specs.Check.{clauseSaid}
 use Rattle.reading.proofs.Clause.{clause-ends, clause-wrong, clause-checkable, clause-bad, clause-taken}
 use Rattle.reading.proofs.read_clause.Statement.{statement}
@@ -77,6 +80,24 @@ returns-3 c =
       k .check-clause .ensures .1,
     )
 
+-- the clause is refused where the check's answer says so
+refused : (k : tie.After-check-clause) (s : ClauseCheck) (reason : Reason) (p : ℕ) → k .check-clause .result ≡ s →
+    let a = k .before .before .before .before .before .before .before .before .before .args in
+    clauseSaid FormulaCode FormulaTwice (a .at) s ≡ bad reason p → (m n : ℕ) → read-clauses (a .formula .now) (a .vars) (suc m) n (a .at) ≡ bad reason p
+refused k s reason p same q =
+    let e = k .before .before .before in
+    let x = e .before .before in
+    clause-bad
+    _ _ _
+    (x .before .if1 .left)
+    _
+    (found FormulaField 2 even _ _ _ (sym (e .e .given .1) ∙ x .expect .ensures FormulaField))
+    _ s
+    (k .check-clause .ensures .0)
+    same
+    reason p
+    q
+
 same-length-2 : tie.Need-same-length-2
 same-length-2 c = search needs
 
@@ -85,20 +106,7 @@ unfolding clauseSaid
 returns-4 c =
     let o = c .before in
     let k = o .before .before .before .before in
-    let e = k .before .before .before in
-    let x = e .before .before in (
-      clause-bad
-          _ _ _
-          (x .before .if1 .left)
-          _
-          (found FormulaField 2 even _ _ _ (sym (e .e .given .1) ∙ x .expect .ensures FormulaField))
-          _ _
-          (k .check-clause .ensures .0)
-          (o .place .given .1)
-          _ _
-          refl,
-      k .check-clause .ensures .1,
-    )
+    (refused k _ _ _ (o .place .given .1) refl, k .check-clause .ensures .1)
 
 same-length-3 : tie.Need-same-length-3
 same-length-3 c = search needs
@@ -108,20 +116,7 @@ unfolding clauseSaid
 returns-5 c =
     let o = c .before in
     let k = o .before .before .before .before in
-    let e = k .before .before .before in
-    let x = e .before .before in (
-      clause-bad
-          _ _ _
-          (x .before .if1 .left)
-          _
-          (found FormulaField 2 even _ _ _ (sym (e .e .given .1) ∙ x .expect .ensures FormulaField))
-          _ _
-          (k .check-clause .ensures .0)
-          (o .place2 .given .1)
-          _ _
-          refl,
-      k .check-clause .ensures .1,
-    )
+    (refused k _ _ _ (o .place2 .given .1) refl, k .check-clause .ensures .1)
 
 same-length-4 : tie.Need-same-length-4
 same-length-4 c = search needs
@@ -130,20 +125,7 @@ returns-6 : tie.Need-returns-6
 unfolding clauseSaid
 returns-6 c =
     let k = c .before .before .before .before in
-    let e = k .before .before .before in
-    let x = e .before .before in (
-      clause-bad
-          _ _ _
-          (x .before .if1 .left)
-          _
-          (found FormulaField 2 even _ _ _ (sym (e .e .given .1) ∙ x .expect .ensures FormulaField))
-          _ _
-          (k .check-clause .ensures .0)
-          (c .enum-told3 .given .1)
-          _ _
-          refl,
-      k .check-clause .ensures .1,
-    )
+    (refused k _ _ _ (c .enum-told3 .given .1) refl, k .check-clause .ensures .1)
 
 pub read-clause-spec : {M : Type 1} → statement M
 read-clause-spec =

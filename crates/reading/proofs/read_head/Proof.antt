@@ -1,10 +1,9 @@
 -- `reading::read_head` meets its contract. Assumes nothing.
 use borrow.Author.Needs.{needs}
-use mathlib.Core.Path.{_≡_, sym, ap, subst, _∙_}
+use mathlib.Core.Path.{sym, _∙_}
 use native.Mathlib.Omega.{arith}
-use Prim.Native.Nat.{ℕ, _≤_}
 use Rattle.paper.specs.declared.Reason.the-variants.{FormulaField}
-use Rattle.paper.specs.Files.{ok, field, four}
+use Rattle.paper.specs.Files.{four}
 use Rattle.field.proofs.Laws.{found, wrong}
 use Rattle.reading.proofs.Head.{head-wrong, head-long, head-vars-over, head-clauses-over, head-taken}
 use Rattle.reading.proofs.read_head.Statement.{statement}
