@@ -1,0 +1,2 @@
+-- What the run of a proof starts from.
+pub mod Run
