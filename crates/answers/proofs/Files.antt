@@ -1,25 +1,22 @@
 -- The files of a call: the answer by how far they are read.
 -- Assumes nothing.
 use Prim.Native.Nat.{ℕ, _≤_, _<_}
-use mathlib.Core.Path.{_≡_, refl, sym, ap, _∙_, subst}
-use mathlib.Core.Logic.{_⊎_, inl, inr}
+use mathlib.Core.Path.{_≡_, ap, _∙_, subst}
+use mathlib.Core.Logic.{_⊎_}
 use mathlib.Core.List.{List}
-use native.Mathlib.Omega.{arith}
 use lib.ListN.{length, getD, replicate, length-replicate}
 use Rattle.paper.specs.declared.Reason.{Reason}
 use Rattle.paper.specs.declared.Reason.the-variants.{FileLong}
 use Rattle.paper.specs.declared.Verdict.{Verdict}
 use Rattle.paper.specs.Atoms.{Formula}
-use Rattle.paper.specs.Files.{File, ok}
-use Rattle.paper.specs.Refusals.{read-formula}
+use Rattle.paper.specs.Files.{File}
 use Rattle.paper.specs.Answers.{refused, Steps, Answer, file-long, formula-bad, proof-judged}
 use Rattle.paper.proofs.Reading.{Then, Formula-read, read-formula-kept}
 use Rattle.lookup.specs.Live.{live}
-use Rattle.table.specs.Table.{Zero}
 use Rattle.table.proofs.Kept.{replicate-zero}
 use Rattle.reading.specs.declared.FormulaRead.{FormulaRead}
 use Rattle.reading.specs.declared.FormulaRead.the-variants.{Whole, Bad}
-use Rattle.reading.specs.Reading.{FormulaTaken, FormulaRefused, FormulaSaid}
+use Rattle.reading.specs.Reading.{FormulaTaken, FormulaSaid}
 use Rattle.answers.specs.Run.{Start, Clear}
 
 -- 2: a file is too long

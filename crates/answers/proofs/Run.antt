@@ -1,7 +1,7 @@
 -- The loop over a proof's steps: what holds before each, and how each way out gives the answer.
 -- Assumes nothing.
-use Prim.Native.Nat.{ℕ, suc, _+_, _≤_, _<_}
-use mathlib.Core.Path.{_≡_, refl, sym, ap, _∙_, subst}
+use Prim.Native.Nat.{ℕ, _+_, _≤_, _<_}
+use mathlib.Core.Path.{_≡_, ap, _∙_, subst}
 use mathlib.Core.Bool.{Bool, true, false}
 use mathlib.Core.List.{List}
 use native.Mathlib.Omega.{arith}
@@ -13,14 +13,13 @@ use Rattle.paper.specs.declared.Verdict.the-variants.{Refuted, Held}
 use Rattle.paper.specs.Atoms.{Formula}
 use Rattle.paper.specs.Files.{File, ok, Step}
 use Rattle.paper.specs.Refusals.{read-step}
-use Rattle.paper.specs.Answers.{refused, Judged, taken, Steps, refuted, held}
+use Rattle.paper.specs.Answers.{refused, Steps, refuted, held}
 use Rattle.paper.specs.Answers as answers
 use Rattle.paper.proofs.Reading.{Then, Step-read, read-step-seen}
 use Rattle.paper.proofs.Judging.{judged-kept}
 use Rattle.lookup.specs.Live.{live, EmptyLive}
-use Rattle.judging.specs.declared.StepAnswer.{StepAnswer}
 use Rattle.judging.specs.declared.StepAnswer.the-variants.{Taken, Stopped}
-use Rattle.judging.specs.Step.{Ready, Done, After, StepIs}
+use Rattle.judging.specs.Step.{Ready, Done, StepIs}
 use Rattle.judging.specs.Step as step
 use Rattle.answers.specs.Run.{Start}
 

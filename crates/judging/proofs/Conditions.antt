@@ -1,18 +1,17 @@
 -- A RUP, SR or WSR step judged by what the questions about its clause answer.
 -- Assumes nothing.
-use Prim.Native.Nat.{ℕ, _+_, _*_, _≤_, _<_}
-use mathlib.Core.Path.{_≡_, refl, sym, ap, _∙_, subst}
-use mathlib.Core.Logic.{_≢_}
-use mathlib.Core.Bool.{Bool, true, false, not, true≢false, false≢true}
+use Prim.Native.Nat.{ℕ, _+_, _*_, _≤_}
+use mathlib.Core.Path.{_≡_, refl, sym, subst}
+use mathlib.Core.Bool.{Bool, true, false, not}
 use mathlib.Core.List.{List, []}
 use native.Mathlib.Omega.{arith}
 use Rattle.paper.specs.declared.Reason.the-variants.{NotRup, NotTrivialised, NotPassing}
-use Rattle.paper.specs.Atoms.{_∈_, Clause, Formula, Live, Witness}
+use Rattle.paper.specs.Atoms.{_∈_, Witness}
 use Rattle.paper.specs.Files.{File, codes}
 use Rattle.paper.specs.Conditions.{RUP, Trivialises, Passes}
 use Rattle.paper.specs.Refusals.{to-step}
-use Rattle.paper.specs.Answers.{Judged, rup, not-rup, sr, not-trivialised, sr-lowest, wsr, wsr-lowest, wsr-new}
-use Rattle.paper.proofs.Valid.{Mapping, Listed}
+use Rattle.paper.specs.Answers.{rup, not-rup, sr, not-trivialised, sr-lowest, wsr, wsr-lowest, wsr-new}
+use Rattle.paper.proofs.Valid.{Listed}
 use Rattle.lookup.specs.Live.{live}
 use Rattle.loading.specs.Loading.{Images, Inward, Decides}
 use Rattle.conditions.specs.Asked.{Asked, Finds}

@@ -1,34 +1,32 @@
 -- What each stage of a step's judgement passes on to the next, and concludes from what it calls.
 -- Assumes nothing.
-use Prim.Native.Nat.{ℕ, suc, _+_, _-_, _*_, _/_, _%_, _≤_, _<_}
-use mathlib.Core.Path.{_≡_, refl, sym, ap, _∙_, subst}
-use mathlib.Core.Logic.{_≢_, _⊎_, inl, inr}
+use Prim.Native.Nat.{ℕ, suc, _+_, _-_, _%_, _≤_, _<_}
+use mathlib.Core.Path.{_≡_, refl, ap, _∙_, subst}
+use mathlib.Core.Logic.{_≢_}
 use mathlib.Core.Bool.{Bool, true, false}
-use mathlib.Core.List.{List, [], _∷_, map}
+use mathlib.Core.List.{List, []}
 use native.Mathlib.Omega.{arith}
 use native.Mathlib.Decide.{ℕ-discrete}
 use native.Mathlib.Numerals.{add-one}
-use lib.Dec.{eqb, leb}
 use lib.ListN.{length, getD, set, take, drop, length-set}
 use lib.Seq.{length-take-le}
 use Rattle.paper.specs.declared.Reason.{Reason}
-use Rattle.paper.specs.declared.Reason.the-variants.{ProofField, ProofCode, ProofTwice, NumberNotLive, NumbersUsedUp, ClauseLong}
+use Rattle.paper.specs.declared.Reason.the-variants.{ProofField, ProofCode, ProofTwice, NumbersUsedUp, ClauseLong}
 use Rattle.paper.specs.declared.Extent.{Extent}
 use Rattle.paper.specs.declared.Fields.{Fields}
 use Rattle.paper.specs.Atoms.{Clause, Formula, Witness}
-use Rattle.paper.specs.Files.{File, Read, ok, bad, _>>_, need, payload, past, codes, mappings, Step, even}
+use Rattle.paper.specs.Files.{File, ok, bad, _>>_, need, payload, past, codes, mappings, even}
 use Rattle.paper.specs.Conditions.{without, after}
-use Rattle.paper.specs.Refusals.{each, no-two, check-clause, read-fields, check-mappings, check-numbers, to-step, read-step}
-use Rattle.paper.specs.Answers.{Outcome, taken, stops, Judged, deleted}
+use Rattle.paper.specs.Refusals.{each, no-two, check-clause, read-fields, check-mappings, check-numbers}
+use Rattle.paper.specs.Answers.{taken, Judged, deleted}
 use Rattle.paper.proofs.Lists.{Distinct, eqb-same, eqb-other, leb-within}
-use Rattle.paper.proofs.Valid.{Codes, Apart, Kept, Mapping, Listed}
+use Rattle.paper.proofs.Valid.{Codes, Apart, Mapping, Listed}
 use Rattle.paper.proofs.Reading.{Then, Ranged, check-clause-then, check-mappings-then, no-two-then, check-numbers-then}
 use Rattle.paper.proofs.Judging.{image-range}
 use Rattle.paper.proofs.Scan.{length-payload}
 use Rattle.lookup.specs.Clause.{proofWord}
 use Rattle.lookup.specs.Live.{live}
 use Rattle.lookup.proofs.Live.{live-used, entered-above}
-use Rattle.table.specs.Table.{Zero, imageOf}
 use Rattle.table.proofs.Kept.{zero-value}
 use Rattle.mapping.specs.Mapping.{Fitting, Bare, variables, loaded, unloaded, saidBy, tableAfter}
 use Rattle.mapping.specs.declared.Loaded.{Loaded}
@@ -44,7 +42,6 @@ use Rattle.steps.proofs.Part.{no-codes}
 use Rattle.steps.proofs.Fields.{Lie, lie}
 use Rattle.steps.proofs.Numbers.{above-kept, live-after}
 use Rattle.steps.proofs.Step.{clause-of, witness-of, numbers-of, fields-refuse, clause-refuses, mappings-refuse, twice-refuses, numbers-refuse, used-up, new-read, delete-read, delete-tag}
-use Rattle.loading.specs.Loading.{Images, Inward}
 use Rattle.loading.specs.Loading as loading
 use Rattle.judging.specs.declared.Judgement.{Judgement}
 use Rattle.judging.specs.declared.Judgement.the-variants.{Passed, Stopped}

@@ -1,24 +1,22 @@
 -- Demands 1 and 2 of the definition itself: every call has an answer, and only one; and how it is computed.
 -- Assumes nothing.
-use Prim.Native.Nat.{ℕ, zero, suc, _+_, _*_, _-_, _≤_, _<_}
-use mathlib.Core.Path.{_≡_, refl, sym, ap, _∙_, subst}
+use Prim.Native.Nat.{ℕ, zero, suc, _-_, _≤_, _<_}
+use mathlib.Core.Path.{_≡_, refl, sym, ap, subst}
 use mathlib.Core.Logic.{_⊎_, inl, inr}
-use mathlib.Core.Bool.{Bool, true, false, _&&_, _||_, true≢false, false≢true}
-use mathlib.Core.List.{List, [], _∷_, List·Memᴰ·head, List·Memᴰ·tail}
+use mathlib.Core.Bool.{Bool, true, false, _||_, true≢false, false≢true}
+use mathlib.Core.List.{[], _∷_, List·Memᴰ·head, List·Memᴰ·tail}
 use native.Mathlib.Omega.{arith}
-use native.Mathlib.Decide.{decLt}
 use lib.Dec.{leb, ltb}
 use lib.ListN.{length}
-use Rattle.paper.specs.declared.Reason.{Reason}
 use Rattle.paper.specs.declared.Reason.the-variants.{WorkShort, FileLong}
 use Rattle.paper.specs.declared.Verdict.{Verdict}
-use Rattle.paper.specs.declared.Verdict.the-variants.{Refuted, Held, Refused}
-use Rattle.paper.specs.Atoms.{_∈_, Clause, Formula, Live}
+use Rattle.paper.specs.declared.Verdict.the-variants.{Refuted, Held}
+use Rattle.paper.specs.Atoms.{Clause, Formula, Live}
 use Rattle.paper.specs.Files.{File, Read, ok, bad, Step}
 use Rattle.paper.specs.Refusals.{read-formula, read-step}
 use Rattle.paper.specs.Answers.{refused, Outcome, taken, stops, Judged, Steps, refuted, held, unread, judged, goes-on, Within, Answer, work-short, file-long, formula-bad, proof-judged}
 use Rattle.paper.proofs.Lists.{leb-yes, leb-no, or-yes, or-no}
-use Rattle.paper.proofs.Valid.{Kept, Seen}
+use Rattle.paper.proofs.Valid.{Kept}
 use Rattle.paper.proofs.Reading.{Then, Step-read, read-step-seen, Formula-read, read-formula-kept}
 use Rattle.paper.proofs.Judging.{take-step, take-step-judged, judged-once, judged-kept}
 

@@ -1,18 +1,15 @@
 -- Demand 3 over the bytes of the two files, for any number of steps; and that "refuted" is only said of a formula that no stowage meets.
 -- Assumes nothing.
-use Prim.Native.Nat.{ℕ, zero, suc, _+_, _-_, _≤_, _<_}
-use mathlib.Core.Path.{_≡_, refl, sym, ap, _∙_, subst}
-use mathlib.Core.Bool.{Bool, true, false}
-use mathlib.Core.List.{List, [], _∷_}
+use Prim.Native.Nat.{ℕ, zero, suc, _+_, _-_, _≤_}
+use mathlib.Core.Path.{_≡_, sym, subst}
 use native.Mathlib.Omega.{arith}
-use lib.ListN.{length}
 use Rattle.paper.specs.declared.Verdict.{Verdict}
 use Rattle.paper.specs.declared.Verdict.the-variants.{Refuted, Held, Refused}
-use Rattle.paper.specs.Atoms.{Clause, Formula, Live, Witness}
-use Rattle.paper.specs.Files.{File, Read, ok, bad, Step, RUP-step, SR-step, WSR-step, DELETE-step}
-use Rattle.paper.specs.Stowages.{Stowage, Meets, carried}
-use Rattle.paper.specs.Refusals.{read-formula, read-step}
-use Rattle.paper.specs.Answers.{Outcome, taken, stops, Judged, rup, sr, wsr, deleted, Steps, refuted, held, unread, judged, goes-on, Answer, work-short, file-long, formula-bad, proof-judged, stowed, Carried, start, step}
+use Rattle.paper.specs.Atoms.{Formula}
+use Rattle.paper.specs.Files.{File, ok, Step}
+use Rattle.paper.specs.Stowages.{Stowage, Meets}
+use Rattle.paper.specs.Refusals.{read-formula}
+use Rattle.paper.specs.Answers.{taken, stops, Judged, rup, sr, wsr, deleted, Steps, refuted, held, unread, judged, goes-on, Answer, proof-judged, stowed, Carried, start, step}
 use Rattle.paper.proofs.Judging.{judged-once}
 use Rattle.paper.proofs.Answering.{same-read}
 use Rattle.paper.proofs.Soundness.{WSR-sound, SR-sound, RUP-step-sound, DELETE-sound, empty-refutes}

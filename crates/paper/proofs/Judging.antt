@@ -2,7 +2,7 @@
 -- Assumes nothing.
 use Prim.Native.Nat.{ℕ, zero, suc, _+_, _*_, _-_, _%_, _/_, _≤_, _<_}
 use mathlib.Core.Path.{_≡_, refl, sym, ap, _∙_, subst}
-use mathlib.Core.Logic.{_↔_, _≢_, _⊎_, inl, inr}
+use mathlib.Core.Logic.{_≢_, _⊎_, inl, inr}
 use mathlib.Core.Bool.{Bool, true, false, _||_, true≢false, false≢true}
 use mathlib.Core.List.{List, [], _∷_, _++_, map, List·Memᴰ·head, List·Memᴰ·tail, List·Memᴰ·append-cases, List·Memᴰ·eq-of-singleton}
 use native.Mathlib.Omega.{arith}
@@ -11,11 +11,11 @@ use lib.Dec.{eqb}
 use Rattle.paper.specs.declared.Reason.the-variants.{NotRup, NotTrivialised, NotPassing}
 use Rattle.paper.specs.Atoms.{complement, _∈_, Clause, Formula, Live, Witness}
 use Rattle.paper.specs.Files.{Step, RUP-step, SR-step, WSR-step, DELETE-step}
-use Rattle.paper.specs.Conditions.{look, image, RUP, Trivialises, to-true, to-complements, is-in, under, Passes, trivial, opposed, follows, SR, WSR, Lowest, without, after}
+use Rattle.paper.specs.Conditions.{look, image, RUP, Trivialises, to-true, to-complements, is-in, under, Passes, trivial, opposed, follows, Lowest, without, after}
 use Rattle.paper.specs.Sweeps.{propagate}
 use Rattle.paper.specs.Answers.{Outcome, taken, stops, Judged, rup, not-rup, sr, not-trivialised, sr-lowest, wsr, wsr-lowest, wsr-new, deleted}
-use Rattle.paper.proofs.Lists.{Distinct, eqb-yes, eqb-no, or-yes, or-no, is-in-yes, is-in-no, map-out, under-out, under-not-false, without-out}
-use Rattle.paper.proofs.Valid.{Codes, Apart, Valid, Rising, Kept, Mapping, Listed, New, Seen}
+use Rattle.paper.proofs.Lists.{eqb-yes, eqb-no, or-yes, or-no, is-in-yes, is-in-no, map-out, under-out, under-not-false, without-out}
+use Rattle.paper.proofs.Valid.{Codes, Apart, Valid, Rising, Kept, Seen}
 use Rattle.paper.proofs.Propagation.{propagate-sound, propagate-complete}
 
 -- 1. The tests.

@@ -1,7 +1,7 @@
 -- Which reasons each part of the answer can give: those that the paper's order names there, and no others.
 -- Assumes nothing.
-use Prim.Native.Nat.{ℕ, zero, suc, _+_, _*_, _/_, _≤_, _<_}
-use mathlib.Core.Path.{_≡_, refl, sym, ap, _∙_, subst}
+use Prim.Native.Nat.{ℕ, zero, suc, _+_, _*_, _/_, _≤_}
+use mathlib.Core.Path.{_≡_, refl, subst}
 use mathlib.Core.Logic.{_≢_, _⊎_, inl, inr}
 use mathlib.Core.Bool.{Bool, true, false, _&&_, _||_}
 use mathlib.Core.List.{List, [], _∷_, map}
@@ -9,14 +9,14 @@ use native.Mathlib.Omega.{arith}
 use lib.Dec.{eqb, leb, ltb}
 use lib.ListN.{length, getD}
 use Rattle.paper.specs.declared.Reason.{Reason}
-use Rattle.paper.specs.declared.Reason.the-variants.{WorkShort, FileLong, FormulaField, OverLimit, FormulaCode, FormulaTwice, FormulaEnd, ProofField, ProofCode, ProofTwice, NumberNotLive, NumbersUsedUp, NotRup, NotTrivialised, NotPassing, ClauseLong}
+use Rattle.paper.specs.declared.Reason.the-variants.{FormulaField, OverLimit, FormulaCode, FormulaTwice, FormulaEnd, ProofField, ProofCode, ProofTwice, NumberNotLive, NumbersUsedUp, ClauseLong}
 use Rattle.paper.specs.declared.Verdict.{Verdict}
 use Rattle.paper.specs.declared.Verdict.the-variants.{Refuted, Held, Refused}
 use Rattle.paper.specs.Atoms.{Clause, Formula, Witness}
 use Rattle.paper.specs.Files.{File, Read, ok, bad, _>>=_, _>>_, need, two, payload, past, field, four, even, fours, codes, mappings, Step}
 use Rattle.paper.specs.Conditions.{is-in}
 use Rattle.paper.specs.Refusals.{each, no-two, between, check-clause, read-clauses, read-formula, field-if, read-fields, check-mappings, is-live, check-numbers, read-step}
-use Rattle.paper.specs.Answers.{numberOf, numbersOf, refused, stops, Judged, not-rup, not-trivialised, sr-lowest, wsr-lowest, wsr-new, Steps, refuted, held, unread, judged, goes-on, Answer, work-short, file-long, formula-bad, proof-judged}
+use Rattle.paper.specs.Answers.{numberOf, numbersOf, stops, Judged, not-rup, not-trivialised, sr-lowest, wsr-lowest, wsr-new, Steps, refuted, held, unread, judged, goes-on, Answer, work-short, file-long, formula-bad, proof-judged}
 
 -- what holds of the reason, where there is one
 abbrev Else : {A : Type 0} → (Reason → Type 0) → Read A → Type 0

@@ -1,16 +1,18 @@
 -- Demand 3 for one step: what RUP, SR and WSR preserve.
 -- Assumes nothing.
-use Prim.Native.Nat.{ℕ, zero, suc, _+_, _*_, _-_, _%_, _/_, _≤_, _<_}
-use mathlib.Core.Path.{_≡_, refl, sym, ap, _∙_, subst}
+use Prim.Native.Nat.{ℕ, zero, suc, _+_, _-_, _%_, _/_, _*_, _≤_}
+use mathlib.Core.Path.{_≡_, refl, sym, ap, _∙_, ap₂}
 use mathlib.Core.Logic.{_≢_, _⊎_, inl, inr}
 use mathlib.Core.Bool.{Bool, true, false, not, _||_, true≢false, false≢true}
-use mathlib.Core.List.{List, [], _∷_, _++_, map, List·Memᴰ, List·Memᴰ·head, List·Memᴰ·tail, List·Memᴰ·append-cases, List·Memᴰ·eq-of-singleton}
+use mathlib.Core.List.{List, [], _∷_, _++_, map, List·Memᴰ·head, List·Memᴰ·tail, List·Memᴰ·append-cases, List·Memᴰ·eq-of-singleton}
 use native.Mathlib.Omega.{arith}
 use native.Mathlib.Decide.{ℕ-discrete}
 use lib.Dec.{eqb}
 use Rattle.paper.specs.Atoms.{complement, _∈_, Clause, Formula, Live, Witness}
-use Rattle.paper.specs.Conditions.{Derived, given, unit, Clash, both, broken, RUP, look, image, Trivialises, to-true, to-complements, once, is-in, under, Passes, trivial, opposed, follows, SR, WSR, without, after}
+use Rattle.paper.specs.Conditions.{Derived, given, unit, Clash, both, broken, RUP, look, image, Trivialises, to-true, to-complements, under, Passes, trivial, opposed, follows, SR, WSR, without, after}
 use Rattle.paper.specs.Stowages.{Stowage, variable, value, moved, meets, Meets, carried}
+use Rattle.paper.proofs.Valid.{Codes}
+use Rattle.paper.proofs.Judging.{look-range}
 use Rattle.paper.proofs.Lists.{complement-half, complement-mod, eqb-yes, eqb-no, eqb-same, eqb-other, map-out, under-out, without-out}
 
 -- the value of an atom, by its sign
@@ -199,3 +201,25 @@ DELETE-sound I F ns mF k D m = mF k D ((without-out ns F m) .0)
 pub empty-refutes : (I : Stowage) (F : Formula) (n : ℕ) → Live F n [] → Meets I F → ⊥
 unfolding meets
 empty-refutes I F n m mF = false≢true (mF n [] m)
+
+-- What a stowage gives beyond V is never read: two that agree on 1 to V meet the same clauses, and still agree once moved.
+module _ (vars : ℕ) (I J : Stowage) (alike : (v : ℕ) → 1 ≤ v → v ≤ vars → I v ≡ J v) where
+  variable-alike : (v : ℕ) → v ≤ vars → variable I v ≡ variable J v
+  unfolding variable
+  variable-alike zero h = refl
+  variable-alike (suc v) h = alike (suc v) (omega arith) h
+
+  value-alike : (a : ℕ) → a ≤ 2 * vars + 1 → value I a ≡ value J a
+  unfolding value
+  value-alike a h =
+      ap (λ (b : Bool). elim (eqb (a % 2) 0) as (λ _. Bool) [ true ↦ b | false ↦ not b ]) (variable-alike (a / 2) (omega arith))
+
+  pub meets-alike : (D : Clause) → Codes vars D → meets I D ≡ meets J D
+  unfolding meets
+  meets-alike [] codes = refl
+  meets-alike (l ∷ D) codes =
+      ap₂ _||_ (value-alike l ((codes l (List·Memᴰ·head refl)) .1)) (meets-alike D (λ k m. codes k (List·Memᴰ·tail m)))
+
+  pub moved-alike : (s : Witness) → ((v a : ℕ) → _∈_ {A = ℕ × ℕ} (v, a) s → a ≤ 2 * vars + 1) → (v : ℕ) → v ≤ vars → moved s I v ≡ moved s J v
+  unfolding moved
+  moved-alike s atoms v h = value-alike (look s v) (look-range vars s v atoms h)

@@ -1,14 +1,13 @@
 -- Paper, "Verdicts and reasons": the answer of a call, and what the work memory holds after it.
-use Prim.Native.Nat.{ℕ, zero, suc, _+_, _*_, _/_, _%_, _≤_, _<_}
+use Prim.Native.Nat.{ℕ, suc, _+_, _≤_, _<_}
 use mathlib.Core.Path.{_≡_}
 use mathlib.Core.Logic.{_⊎_}
-use mathlib.Core.List.{List, [], _∷_, _++_}
+use mathlib.Core.List.{List, [], _++_}
 use mathlib.Core.Bool.{true, false}
 use lib.Dec.{eqb}
 use lib.ListN.{length, drop, replicate}
 use Rattle.paper.specs.declared.Reason.{Reason}
 use Rattle.paper.specs.declared.Reason.the-variants.{WorkShort, FileLong, FormulaField, OverLimit, FormulaCode, FormulaTwice, FormulaEnd, ProofField, ProofCode, ProofTwice, NumberNotLive, NumbersUsedUp, NotRup, NotTrivialised, NotPassing, ClauseLong}
-use Rattle.paper.specs.declared.Refusal.{Refusal}
 use Rattle.paper.specs.declared.Verdict.{Verdict}
 use Rattle.paper.specs.declared.Verdict.the-variants.{Refuted, Held, Refused}
 use Rattle.paper.specs.declared.Numbers.{Numbers}
@@ -37,7 +36,7 @@ numberOf NotTrivialised = 14
 numberOf NotPassing = 15
 numberOf ClauseLong = 16
 
--- "verdict .., reason (0 unless refused), step, place (0 unless refused)"
+-- "verdict .., reason (0 unless refused), step, place (0 unless refused)"; the verdict as 0 refuted, 1 held, 2 refused
 abbrev pub numbersOf : Verdict → Numbers
 numbersOf (Refuted n) = record { verdict = 0; reason = 0; step = n; place = 0 }
 numbersOf (Held n) = record { verdict = 1; reason = 0; step = n; place = 0 }
@@ -104,7 +103,7 @@ pub data Answer (words bytes : ℕ) (formula proof : File) : Verdict → Type 0 
 unfoldable pub memory-after : ℕ → Verdict → List ℕ → List ℕ
 memory-after n v m = elim (eqb (numbersOf v .reason) 1) [ true ↦ m | false ↦ replicate n 0 ++ drop n m ]
 
--- Demand 3: "moved by the witness at each SR or WSR step whose new clause fails"
+-- How a stowage goes through a step: moved by the witness at an SR or WSR step whose new clause fails, else as it was.
 unfoldable pub stowed : Step → Stowage → Stowage
 stowed (RUP-step C) I = I
 stowed (SR-step C s) I = carried s C I

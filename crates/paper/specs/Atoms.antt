@@ -1,5 +1,5 @@
 -- Paper, "Atoms and files": atoms, clauses, and the live clauses by their numbers.
-use Prim.Native.Nat.{ℕ, _+_, _*_, _-_, _%_, _<_}
+use Prim.Native.Nat.{ℕ, _+_, _*_, _-_, _%_}
 use mathlib.Core.List.{List, List·Memᴰ}
 
 -- "2v for variable v, 2v+1 for its complement, 0 for true, 1 for false. Complement exchanges 2k and 2k+1."

@@ -24,6 +24,7 @@ not-false vs [] = []
 not-false vs (l ∷ D) = elim (is-true vs (complement l)) [ true ↦ not-false vs D | false ↦ l ∷ not-false vs D ]
 
 -- "The state of a propagation (number of literals set, sweeps made, clash or none) is a small record that each sweep updates."
+-- Here with the values themselves; literals that were assumed are not counted.
 pub record State : Type 0 where
   pub values : Values
   pub literals : ℕ

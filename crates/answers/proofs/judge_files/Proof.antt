@@ -1,10 +1,8 @@
 -- `answers::judge_files` meets its contract.
 -- Assumes nothing.
-use Prim.Native.Nat.{_≤_}
 use borrow.Author.Needs.{needs}
 use mathlib.Core.Logic.{inl, inr}
 use native.Mathlib.Omega.{arith}
-use lib.ListN.{length}
 use Rattle.answers.proofs.Files.{long-said, formula-said, start, steps-said}
 use Rattle.answers.proofs.judge_files.Statement.{statement}
 use Rattle.answers.proofs.judge_files.Tie as tie

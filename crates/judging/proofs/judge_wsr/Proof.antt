@@ -1,7 +1,7 @@
 -- `judging::judge_wsr` meets its contract.
 -- Assumes nothing.
 use borrow.Author.Needs.{needs}
-use mathlib.Core.Path.{refl, _∙_}
+use mathlib.Core.Path.{_∙_}
 use Rattle.judging.proofs.Conditions.{wsr-stopped, wsr-passed, wsr-new-stopped, passes-asks}
 use Rattle.judging.proofs.judge_wsr.Statement.{statement}
 use Rattle.judging.proofs.judge_wsr.Tie as tie

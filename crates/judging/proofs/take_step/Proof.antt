@@ -1,8 +1,7 @@
 -- `judging::take_step` meets its contract.
 -- Assumes nothing.
-use Prim.Native.Nat.{_<_}
 use borrow.Author.Needs.{needs}
-use mathlib.Core.Path.{sym, ap, _∙_}
+use mathlib.Core.Path.{sym, _∙_}
 use native.Mathlib.Omega.{arith}
 use Rattle.steps.proofs.Fields.{lie, whole, refused}
 use Rattle.judging.proofs.Laws.{fields-stop, step-stopped, deleted-done, number-free, added-done}

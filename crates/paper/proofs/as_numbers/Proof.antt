@@ -1,5 +1,5 @@
 use borrow.Author.Needs.{needs}
-use mathlib.Core.Path.{sym, ap, _∙_}
+use mathlib.Core.Path.{sym, ap}
 use Rattle.paper.specs.Answers.{numbersOf}
 use Rattle.paper.proofs.as_numbers.Statement.{statement}
 use Rattle.paper.proofs.as_numbers.Tie as tie
