@@ -72,6 +72,23 @@ module _ (P : Reason → Type 0) where
       else-seq _ _ (else-each range (between 2 (2 * vars + 1)) 2 (tag + 3) C a)
       (else-seq _ _ (else-no-two twice [] 2 (tag + 3) (map (λ l. l / 2) C) b) (else-need (leb (length C) vars) ClauseLong tag c))
 
+  else-field-if : (b : Bool) (tag : ℕ) (allowed : ℕ → Bool) (f : File) (at : ℕ) → P ProofField → Else P (field-if b tag allowed f at)
+  unfolding field-if
+  else-field-if true tag allowed f at h = else-field ProofField tag allowed f at h
+  else-field-if false tag allowed f at h = tt
+
+  else-fields : (f : File) (at : ℕ) → P ProofField → Else P (read-fields f at)
+  unfolding read-fields
+  else-fields f at h =
+      else-seq _ _ (else-need (between 0x11 0x14 (getD f at 0)) ProofField at h)
+      (else-bind _ _ (else-field ProofField (getD f at 0) even f at h) λ c.
+      else-bind _ _ (else-field-if (between 0x12 0x13 (getD f at 0)) 0x21 fours f (past c) h) λ w.
+      else-bind _ _ (else-field-if (eqb (getD f at 0) 0x13) 0x22 even f (past w) h) λ n. tt)
+
+-- the fields of a step are refused for reason 8 only
+pub fields-reason : (f : File) (at : ℕ) (r : Reason) (p : ℕ) → read-fields f at ≡ bad r p → r ≡ ProofField
+fields-reason f at r p e = subst (Else (λ q. q ≡ ProofField)) e (else-fields (λ q. q ≡ ProofField) f at refl)
+
 -- "In the formula: HEAD 3, 4; for each clause 7 (bytes at an end), 3, 5, 6, 16; after clause m, 7."
 abbrev pub OfFormula : Reason → Type 0
 OfFormula r = ((3 ≤ numberOf r) × (numberOf r ≤ 7)) ⊎ (numberOf r ≡ 16)
@@ -105,19 +122,6 @@ formula-reasons f r p e = subst (Else OfFormula) e (else-formula f)
 abbrev pub OfStep : Reason → Type 0
 OfStep r = (8 ≤ numberOf r) × (numberOf r ≤ 16)
 
-else-field-if : (b : Bool) (tag : ℕ) (allowed : ℕ → Bool) (f : File) (at : ℕ) → Else OfStep (field-if b tag allowed f at)
-unfolding field-if
-else-field-if true tag allowed f at = else-field OfStep ProofField tag allowed f at (omega arith, omega arith)
-else-field-if false tag allowed f at = tt
-
-else-fields : (f : File) (at : ℕ) → Else OfStep (read-fields f at)
-unfolding read-fields
-else-fields f at =
-    else-seq OfStep _ _ (else-need OfStep (between 0x11 0x14 (getD f at 0)) ProofField at (omega arith, omega arith))
-    (else-bind OfStep _ _ (else-field OfStep ProofField (getD f at 0) even f at (omega arith, omega arith)) λ c.
-    else-bind OfStep _ _ (else-field-if (between 0x12 0x13 (getD f at 0)) 0x21 fours f (past c)) λ w.
-    else-bind OfStep _ _ (else-field-if (eqb (getD f at 0) 0x13) 0x22 even f (past w)) λ n. tt)
-
 else-mappings : (vars p : ℕ) (s : Witness) → Else OfStep (check-mappings vars p s)
 unfolding check-mappings
 else-mappings vars p [] = tt
@@ -134,7 +138,7 @@ else-numbers F last p (n ∷ ns) =
 else-step : (f : File) (vars : ℕ) (F : Formula) (next at : ℕ) → Else OfStep (read-step f vars F next at)
 unfolding read-step
 else-step f vars F next at =
-    else-bind OfStep _ _ (else-fields f at) λ x.
+    else-bind OfStep _ _ (else-fields OfStep f at (omega arith, omega arith)) λ x.
     else-seq OfStep _ _ (else-clause OfStep ProofCode ProofTwice vars at (codes (payload f (x .clause))) (omega arith, omega arith) (omega arith, omega arith) (omega arith, omega arith))
     (else-seq OfStep _ _ (else-mappings vars (x .witness .start) (mappings (codes (payload f (x .witness)))))
     (else-seq OfStep _ _

@@ -7,19 +7,16 @@ use mathlib.Core.Bool.{Bool, true, false}
 use mathlib.Core.List.{List, [], _∷_, List·Memᴰ·head, List·Memᴰ·tail}
 use native.Mathlib.Omega.{arith}
 use native.Mathlib.Decide.{ℕ-discrete, decLt}
-use lib.Dec.{eqb}
-use lib.ListN.{length, getD, take}
+use lib.ListN.{length, getD}
 use lib.Seq.{getD-set-other}
 use Rattle.paper.specs.Atoms.{_∈_, Clause, Formula, Live}
 use Rattle.paper.specs.Files.{File, codes}
 use Rattle.paper.specs.Conditions.{Clash}
 use Rattle.paper.specs.Sweeps.{Values, is-true, put, not-false, State, visit, visits, sweep, sweeps-to}
 use Rattle.paper.proofs.Valid.{Codes, Valid}
-use Rattle.paper.proofs.Lists.{eqb-same}
-use Rattle.paper.proofs.Values.{when-true, not-false-out}
+use Rattle.paper.proofs.Values.{not-false-out}
 use Rattle.paper.proofs.Propagation.{sweeping, visit-none, visit-true, visit-set, visit-more, visits-end, visits-clashed, visits-next, sweep-visits, sweeps-none, sweeps-clash, sweeps-last, sweeps-next, Loaded, sweeps-iff}
-use Rattle.lookup.specs.Clause.{clauseBytes}
-use Rattle.lookup.specs.Live.{live-from, live}
+use Rattle.lookup.specs.Live.{live}
 use Rattle.table.specs.Table.{values, valueAt, Kept}
 use Rattle.table.proofs.Values.{values-at}
 use Rattle.table.proofs.Kept.{kept-refl, kept-trans}
@@ -168,24 +165,7 @@ module _ (v : ℕ) where
       go rec false e (yes q) = rw (sweeps-last n F s e q) (sweep-beyond F out s)
       go rec false e (no q) = rw (sweeps-next n F s e q) (rec ∙ sweep-beyond F out s)
 
--- 3. What callers bring: the words of the numbers in use, lent as a part of the clause table, hold the same live clauses.
-none-from : (f p : File) (k : ℕ) (ws : List ℕ) → ((j : ℕ) → getD ws j 0 ≡ 0) → live-from f p k ws ≡ []
-unfolding live-from
-none-from f p k [] z = refl
-none-from f p k (w ∷ ws) z = when-true (eqb w 0) _ _ (eqb-same w 0 (z 0)) ∙ none-from f p (suc k) ws (λ j. z (suc j))
-
-part-from : (f p : File) (k n : ℕ) (ws : List ℕ) → ((j : ℕ) → n ≤ j → getD ws j 0 ≡ 0) → live-from f p k (take n ws) ≡ live-from f p k ws
-unfolding live-from
-part-from f p k zero ws z = sym (none-from f p k ws (λ j. z j (omega arith)))
-part-from f p k (suc n) [] z = refl
-part-from f p k (suc n) (w ∷ ws) z =
-    ap (λ (F : Formula). elim (eqb w 0) [ true ↦ F | false ↦ (k, codes (clauseBytes f p w)) ∷ F ])
-    (part-from f p (suc k) n ws (λ j h. z (suc j) (omega arith)))
-
-pub live-part : (f p : File) (n : ℕ) (ws : List ℕ) → ((j : ℕ) → n ≤ j → getD ws j 0 ≡ 0) → live f p (take n ws) ≡ live f p ws
-unfolding live
-live-part f p n ws z = part-from f p 0 n ws z
-
+-- 3. What callers bring.
 pub valid-more : (vars top : ℕ) (F : Formula) → vars ≤ top → Valid vars F → Valid top F
 valid-more vars top F h valid =
     record {

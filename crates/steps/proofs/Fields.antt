@@ -7,11 +7,10 @@ use mathlib.Core.Bool.{Bool, true, false, _&&_, true≢false}
 use native.Mathlib.Omega.{arith}
 use lib.Dec.{eqb, leb}
 use lib.ListN.{length, getD}
-use Rattle.paper.specs.declared.Reason.{Reason}
 use Rattle.paper.specs.declared.Reason.the-variants.{ProofField}
 use Rattle.paper.specs.declared.Extent.{Extent}
 use Rattle.paper.specs.declared.Fields.{Fields}
-use Rattle.paper.specs.Files.{File, Read, ok, bad, _>>=_, _>>_, need, two, past, field, even, fours}
+use Rattle.paper.specs.Files.{File, Read, ok, bad, _>>=_, _>>_, need, past, field, even, fours}
 use Rattle.paper.specs.Refusals.{between, field-if, read-fields}
 use Rattle.paper.proofs.Lists.{eqb-yes, eqb-no, eqb-same, eqb-other, leb-yes, leb-within, leb-beyond}
 use Rattle.paper.proofs.Reading.{Then, then-bind, then-seq, need-then, between-yes}
@@ -19,6 +18,7 @@ use Rattle.field.specs.declared.Expected.{Expected}
 use Rattle.field.specs.declared.Expected.the-variants.{Found, Wrong}
 use Rattle.field.specs.Field.{expectedOf}
 use Rattle.field.proofs.Laws.{found, wrong, Stands, stands}
+use Rattle.paper.proofs.Reasons.{fields-reason}
 use Rattle.steps.specs.declared.FieldsRead.the-variants.{Whole, Bad}
 use Rattle.steps.specs.Steps.{fieldsOf}
 
@@ -239,48 +239,7 @@ then-lie f at =
 pub lie : (f : File) (at : ℕ) (x : Fields) → read-fields f at ≡ ok x → Lie f at x
 lie f at x q = subst (Then (Lie f at)) q (then-lie f at)
 
--- 4. Whatever refuses the fields, refuses them for reason 8.
-abbrev Only : {A : Type 0} → Reason → Read A → Type 0
-Only r (ok a) = Unit {0}
-Only r (bad s p) = s ≡ r
-
-only-bind : {A B : Type 0} (r : Reason) (m : Read A) (f : A → Read B) → Only r m → ((a : A) → Only r (f a)) → Only r (m >>= f)
-unfolding _>>=_
-only-bind r (ok a) f p k = k a
-only-bind r (bad s q) f p k = p
-
-only-seq : {A B : Type 0} (r : Reason) (m : Read A) (n : Read B) → Only r m → Only r n → Only r (m >> n)
-unfolding _>>_
-only-seq r (ok a) n p k = k
-only-seq r (bad s q) n p k = p
-
-only-need : (b : Bool) (r : Reason) (p : ℕ) → Only r (need b r p)
-unfolding need
-only-need true r p = tt
-only-need false r p = refl
-
-only-field : (r : Reason) (tag : ℕ) (allowed : ℕ → Bool) (f : File) (at : ℕ) → Only r (field r tag allowed f at)
-unfolding field
-only-field r tag allowed f at =
-    only-seq r _ _ (only-need (leb (at + 3) (length f)) r at)
-    (only-seq r _ _ (only-need (eqb (getD f at 0) tag) r at)
-    (only-seq r _ _ (only-need (allowed (two f (at + 1))) r at)
-    (only-seq r _ _ (only-need (leb (at + 3 + two f (at + 1)) (length f)) r at) tt)))
-
-only-field-if : (b : Bool) (tag : ℕ) (allowed : ℕ → Bool) (f : File) (at : ℕ) → Only ProofField (field-if b tag allowed f at)
-unfolding field-if
-only-field-if true tag allowed f at = only-field ProofField tag allowed f at
-only-field-if false tag allowed f at = tt
-
-only-fields : (f : File) (at : ℕ) → Only ProofField (read-fields f at)
-unfolding read-fields
-only-fields f at =
-    only-seq ProofField _ _ (only-need (between 0x11 0x14 (getD f at 0)) ProofField at)
-    (only-bind ProofField _ _ (only-field ProofField (getD f at 0) even f at) λ c.
-    only-bind ProofField _ _ (only-field-if (between 0x12 0x13 (getD f at 0)) 0x21 fours f (past c)) λ w.
-    only-bind ProofField _ _ (only-field-if (eqb (getD f at 0) 0x13) 0x22 even f (past w)) λ n. tt)
-
--- 5. The code's answer from the paper's reading, and what a caller concludes from it.
+-- 4. The code's answer from the paper's reading, and what a caller concludes from it.
 module _ (f : File) (at : ℕ) where
   pub as-whole : (x : Fields) → read-fields f at ≡ ok x → Whole x ≡ fieldsOf (read-fields f at)
   unfolding fieldsOf
@@ -300,11 +259,11 @@ module _ (f : File) (at : ℕ) where
 
   pub refused : (p : ℕ) → Bad p ≡ fieldsOf (read-fields f at) → read-fields f at ≡ bad ProofField p
   unfolding fieldsOf
-  refused p q = go (read-fields f at) (only-fields f at) q
+  refused p q = go (read-fields f at) refl q
     where
-      go : (m : Read Fields) → Only ProofField m → Bad p ≡ fieldsOf m → m ≡ bad ProofField p
-      go (ok y) o q = let z : _≡_ {A = ℕ} 0 1 = cc in absurd (omega arith)
-      go (bad r s) o q = cc
+      go : (m : Read Fields) → read-fields f at ≡ m → Bad p ≡ fieldsOf m → m ≡ bad ProofField p
+      go (ok y) e q = let z : _≡_ {A = ℕ} 0 1 = cc in absurd (omega arith)
+      go (bad r s) e q = let o = fields-reason f at r s e in cc
 
 -- whole: so the fields lie there
 pub whole-lie : (f : File) (at : ℕ) (x : Fields) → Whole x ≡ fieldsOf (read-fields f at) → Lie f at x
