@@ -169,7 +169,12 @@ fn answer(
     if !load(proof, k) {
         return cut_short();
     }
-    judge(&formula[0..n], &proof[0..k], &mut words[0..w], &mut bytes[0..b]);
+    judge(
+        &formula[0..n],
+        &proof[0..k],
+        &mut words[0..w],
+        &mut bytes[0..b],
+    );
     true
 }
 
