@@ -1,10 +1,10 @@
--- `cli::load` is safe and ends: what is left of the buffer is its measure. Assumes nothing.
+-- `check_files::load` is safe and ends: what is left of the buffer is its measure. Assumes nothing.
 use borrow.Author.Needs.{needs}
 use Prim.Native.Nat.{_-_, _≤_}
 use mathlib.Core.Path.{_≡_}
 use lib.ListN.{length}
-use Rattle.cli.proofs.load.Statement.{statement}
-use Rattle.cli.proofs.load.Tie as tie
+use Rattle.check_files.proofs.load.Statement.{statement}
+use Rattle.check_files.proofs.load.Tie as tie
 
 abbrev Inv-loop : tie.InvT-loop
 Inv-loop fd buf₀ at₀ buf at = (at ≤ length buf) × (length buf ≡ length buf₀)
