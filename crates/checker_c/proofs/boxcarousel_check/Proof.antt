@@ -21,8 +21,11 @@ same-length-2 : tie.Need-same-length-2
 same-length-2 c = search needs
 
 returns : tie.Need-returns
-returns c = record {
-  verdict = c .before .before .before .before .before .before .check .result;
+returns c = let d = c .before .before .before .before .before .before .check in record {
+  verdict = d .result;
+  right = d .ensures .0;
+  words-left = d .ensures .1 .0;
+  bytes-left = d .ensures .1 .1;
   numbers = c .put .ensures ∙ ap listed (c .before .as-numbers .ensures);
 }
 
