@@ -16,7 +16,7 @@ use Rattle.field.specs.declared.FieldRead.{FieldRead}
 use Rattle.field.specs.declared.FieldRead.the-variants.{Whole, Cut, Short, End}
 use Rattle.field.specs.declared.Expected.{Expected}
 use Rattle.field.specs.declared.Expected.the-variants.{Found, Wrong}
-use Rattle.field.specs.Field.{extentAt, fieldAt, expectedOf}
+use Rattle.field.specs.Field.{extentAt, fieldAt, judged, expectedOf}
 
 -- the cursor's reading, by the tests that its code makes
 module _ (f : File) (at : ℕ) where
@@ -111,13 +111,6 @@ pub found-stands : (why : Reason) (tag : ℕ) (allowed : ℕ → Bool) (f : File
     → Found e ≡ expectedOf (field why tag allowed f at) → Stands tag allowed f at e
 found-stands why tag allowed f at e q = stands why tag allowed f at e (found why tag allowed f at e q)
 
--- what the cursor's reading says of the field that must stand there
-unfoldable pub judged : ℕ → (ℕ → Bool) → FieldRead → Expected
-judged tag allowed (Whole t e next) = elim (eqb t tag) [ true ↦ elim (allowed (e .size)) [ true ↦ Found e | false ↦ Wrong ] | false ↦ Wrong ]
-judged tag allowed (Cut t n) = Wrong
-judged tag allowed (Short t) = Wrong
-judged tag allowed End = Wrong
-
 pub judged-right : (why : Reason) (tag : ℕ) (allowed : ℕ → Bool) (f : File) (at : ℕ)
     → judged tag allowed (fieldAt f at) ≡ expectedOf (field why tag allowed f at)
 unfolding judged fieldAt extentAt field need _>>_ expectedOf
@@ -147,10 +140,14 @@ judged-right why tag allowed f at =
     go false true true true false p q r s t = simp (p, q, r, s, t, fieldAt, judged)
     go false true true true true p q r s t = simp (p, q, r, s, t, fieldAt, judged)
 
--- the answer, by what the cursor read
-pub by-reading : (tag : ℕ) (allowed : ℕ → Bool) (f : File) (at : ℕ) (x y : FieldRead) (r : Expected) → x ≡ fieldAt f at → x ≡ y
-    → r ≡ judged tag allowed y → (why : Reason) → r ≡ expectedOf (field why tag allowed f at)
-by-reading tag allowed f at x y r p q h why = h ∙ ap (judged tag allowed) (sym q ∙ p) ∙ judged-right why tag allowed f at
+-- the judgement, by the case that the reading is
+pub by-case : (tag : ℕ) (allowed : ℕ → Bool) (x y : FieldRead) (r : Expected) → x ≡ y → r ≡ judged tag allowed y → r ≡ judged tag allowed x
+by-case tag allowed x y r p h = h ∙ ap (judged tag allowed) (sym p)
+
+-- the answer, by what was read
+pub by-reading : (tag : ℕ) (allowed : ℕ → Bool) (f : File) (at : ℕ) (x : FieldRead) (r : Expected) → x ≡ fieldAt f at → r ≡ judged tag allowed x
+    → (why : Reason) → r ≡ expectedOf (field why tag allowed f at)
+by-reading tag allowed f at x r p h why = h ∙ ap (judged tag allowed) p ∙ judged-right why tag allowed f at
 
 module _ (tag : ℕ) (allowed : ℕ → Bool) (t : ℕ) (e : Extent) (next : Cursor) where
   pub other-tag : t ≢ tag → Wrong ≡ judged tag allowed (Whole t e next)

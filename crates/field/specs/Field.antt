@@ -1,7 +1,7 @@
 -- What reading a field at a place finds, and when that is the field that must stand there.
 use Prim.Native.Nat.{ℕ, _+_}
 use mathlib.Core.Bool.{Bool, true, false}
-use lib.Dec.{leb}
+use lib.Dec.{eqb, leb}
 use lib.ListN.{length, getD}
 use Rattle.paper.specs.declared.Extent.{Extent}
 use Rattle.paper.specs.Files.{File, Read, ok, bad, two, past, four, even, fours}
@@ -35,6 +35,13 @@ abbrev pub allowedBy : Length → ℕ → Bool
 allowedBy Four = four
 allowedBy Even = even
 allowedBy Fours = fours
+
+-- what a reading says of the field that must stand there
+unfoldable pub judged : ℕ → (ℕ → Bool) → FieldRead → Expected
+judged tag allowed (Whole t e next) = elim (eqb t tag) [ true ↦ elim (allowed (e .size)) [ true ↦ Found e | false ↦ Wrong ] | false ↦ Wrong ]
+judged tag allowed (Cut t n) = Wrong
+judged tag allowed (Short t) = Wrong
+judged tag allowed End = Wrong
 
 -- what the paper's reading of a field finds, but for the reason and its place
 unfoldable pub expectedOf : Read Extent → Expected

@@ -6,7 +6,7 @@ ghost use Prim.Native.Nat.{_+_, _<_};
 ghost use lib.ListN.{length};
 ghost use Rattle.paper.specs.declared.Reason.{Reason};
 ghost use Rattle.paper.specs.Files.{two, field};
-ghost use Rattle.field.specs.Field.{fieldAt, allowedBy, expectedOf};
+ghost use Rattle.field.specs.Field.{fieldAt, allowedBy, judged, expectedOf};
 
 fn wide(x: u8) -> usize
     ensures { λ r. ⌜ (r ≡ x) × (r < 256) ⌝ }
@@ -95,11 +95,11 @@ pub enum Expected {
     Wrong,
 }
 
-pub fn expect(s: &[u8], at: usize, tag: u8, l: Length) -> Expected
-    ensures { λ r. ⌜ ((why : Reason) → r ≡ expectedOf (field why tag (allowedBy l) (now (s .entry)) at)) ⌝ }
+// What a reading says of the field that must stand there.
+pub fn judge(read: FieldRead, tag: u8, l: Length) -> Expected
+    ensures { λ r. ⌜ r ≡ judged tag (allowedBy l) read ⌝ }
 {
-    let c = Cursor { at };
-    match c.field(s) {
+    match read {
         FieldRead::Whole {
             tag: t,
             extent,
@@ -119,4 +119,12 @@ pub fn expect(s: &[u8], at: usize, tag: u8, l: Length) -> Expected
         FieldRead::Short { tag: _ } => Expected::Wrong,
         FieldRead::End => Expected::Wrong,
     }
+}
+
+pub fn expect(s: &[u8], at: usize, tag: u8, l: Length) -> Expected
+    ensures { λ r. ⌜ ((why : Reason) → r ≡ expectedOf (field why tag (allowedBy l) (now (s .entry)) at)) ⌝ }
+{
+    let c = Cursor { at };
+    let read = c.field(s);
+    judge(read, tag, l)
 }

@@ -1,76 +1,17 @@
 -- `expect` finds the field that the paper's reading finds.
 use borrow.Author.Needs.{needs}
-use mathlib.Core.Path.{refl}
-use Rattle.field.proofs.Laws.{judged, by-reading, other-tag, right-length, wrong-length}
+use Rattle.field.proofs.Laws.{by-reading}
 use Rattle.field.proofs.expect.Statement.{statement}
 use Rattle.field.proofs.expect.Tie as tie
 
 field-requires : tie.Need-field-requires
 field-requires c κs = search needs
 
-enum-known-t : tie.Need-enum-known-t
-enum-known-t c = search needs
+judge-requires : tie.Need-judge-requires
+judge-requires c κs = search needs
 
 returns : tie.Need-returns
-returns c =
-    let d = c .before .before in
-    by-reading _ _ _ _ _ _ _ (d .before .before .field .ensures) (d .t .given .1) (other-tag _ _ _ _ _ (c .if1 .taken))
-
-allowed-requires : tie.Need-allowed-requires
-allowed-requires c κs = search needs
-
-enum-told : tie.Need-enum-told
-enum-told c = search needs
-
-enum-told-2 : tie.Need-enum-told-2
-enum-told-2 c = search needs
-
-enum-told-3 : tie.Need-enum-told-3
-enum-told-3 c = search needs
-
-returns-2 : tie.Need-returns-2
-returns-2 c =
-    let d = c .before .before .before .before in
-    by-reading
-    _ _ _ _ _ _ _
-    (d .before .before .field .ensures)
-    (d .t .given .1)
-    (right-length _ _ _ _ _ _ (c .before .before .if1 .left) (c .before .allowed .ensures) (c .if2 .taken))
-
-returns-3 : tie.Need-returns-3
-returns-3 c =
-    let d = c .before .before .before .before in
-    by-reading
-    _ _ _ _ _ _ _
-    (d .before .before .field .ensures)
-    (d .t .given .1)
-    (wrong-length _ _ _ _ _ _ (c .before .before .if1 .left) (c .before .allowed .ensures) (c .if2 .left))
-
-returns-4 : tie.Need-returns-4
-unfolding judged
-returns-4 c = by-reading _ _ _ _ _ _ _ (c .before .before .field .ensures) (c .enum-told .given .1) refl
-
-returns-5 : tie.Need-returns-5
-unfolding judged
-returns-5 c = by-reading _ _ _ _ _ _ _ (c .before .before .field .ensures) (c .enum-told2 .given .1) refl
-
-returns-6 : tie.Need-returns-6
-unfolding judged
-returns-6 c = by-reading _ _ _ _ _ _ _ (c .before .before .field .ensures) (c .enum-told3 .given .1) refl
+returns c = by-reading _ _ _ _ _ _ (c .before .field .ensures) (c .judge .ensures)
 
 pub expect-spec : {M : Type 1} → statement M
-expect-spec =
-    tie.close
-    (tie.spec
-    field-requires
-    enum-known-t
-    returns
-    allowed-requires
-    enum-told
-    enum-told-2
-    enum-told-3
-    returns-2
-    returns-3
-    returns-4
-    returns-5
-    returns-6)
+expect-spec = tie.close (tie.spec field-requires judge-requires returns)
