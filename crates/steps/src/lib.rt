@@ -34,7 +34,7 @@ fn expect_if(s: &[u8], asked: bool, at: usize, tag: u8, l: Length) -> Expected
     ensures { λ r. ⌜ r ≡ expectedOf (field-if asked tag (allowedBy l) (now (s .entry)) at) ⌝ }
 {
     if asked {
-        return field::expect(s, at, tag, l);
+        return reader::expect(s, at, tag, l);
     }
     Expected::Found(Extent { start: at, size: 0 })
 }
@@ -47,7 +47,7 @@ pub fn read_fields(proof: &[u8], at: usize) -> FieldsRead
     if !within(0x11, 0x14, tag) {
         return FieldsRead::Bad(at);
     }
-    let Expected::Found(c) = field::expect(proof, at, tag, Length::Even) else {
+    let Expected::Found(c) = reader::expect(proof, at, tag, Length::Even) else {
         return FieldsRead::Bad(at);
     };
     let past_c = c.start + c.size;

@@ -12,7 +12,7 @@ use Rattle.paper.specs.Files.{File, ok, past, field, even, fours}
 use Rattle.paper.specs.Refusals.{between, field-if}
 use Rattle.field.specs.Field.{expectedOf}
 use Rattle.field.proofs.Laws.{found, wrong}
-use Rattle.field.proofs.expect.Reads as expect-reads
+use Rattle.reader.proofs.expect.Reads as expect-reads
 use Rattle.steps.proofs.Fields.{same-test, found-if, wrong-if, tag-refused, clause-refused, witness-refused, modulo-refused, delete-read, clause-read, clause-lies, witness-lies, modulo-lies, as-whole, as-bad}
 use Rattle.steps.proofs.expect_if.Reads as expect-if-reads
 use Rattle.steps.proofs.within.Reads as within-reads
