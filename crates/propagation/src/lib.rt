@@ -15,7 +15,7 @@ pub fn propagate<'a>(formula: &'a [u8], proof: &'a [u8], words: &[u32], t: &mut 
     let mut left: usize = 4096;
     while 0 < left {
         let before = p.literals;
-        p = sweep::sweep(formula, proof, words, t, p);
+        p = updating::sweep_once(formula, proof, words, t, p);
         if p.clash {
             return p;
         }

@@ -14,8 +14,8 @@ abbrev μ-loop : tie.MeasureT-loop
 loop-holds : tie.Need-loop-holds Inv-loop μ-loop
 loop-holds c = running-start
 
-sweep-requires : tie.Need-sweep-requires Inv-loop μ-loop
-sweep-requires c κs =
+sweep-once-requires : tie.Need-sweep-once-requires Inv-loop μ-loop
+sweep-once-requires c κs =
     let l = c .before .before in
     running-sweepable (l .loop .inv) (c .before .loop-test .taken) (l .before .before .before .before .before .pre)
 
@@ -26,7 +26,7 @@ returns : tie.Need-returns Inv-loop μ-loop
 returns c =
     let d = c .before .before .before in
     let l = d .before .before .before in
-    last-clash (l .loop .inv) (d .before .before .loop-test .taken) (l .before .before .before .before .before .pre) (d .sweep .ensures) (c .if1 .taken)
+    last-clash (l .loop .inv) (d .before .before .loop-test .taken) (l .before .before .before .before .before .pre) (d .sweep-once .ensures) (c .if1 .taken)
 
 same-length-2 : tie.Need-same-length-2 Inv-loop μ-loop
 same-length-2 c = search needs
@@ -35,7 +35,7 @@ returns-2 : tie.Need-returns-2 Inv-loop μ-loop
 returns-2 c =
     let d = c .before .before .before .before .before in
     let l = d .before .before .before in
-    last-still (l .loop .inv) (d .before .before .loop-test .taken) (l .before .before .before .before .before .pre) (d .sweep .ensures)
+    last-still (l .loop .inv) (d .before .before .loop-test .taken) (l .before .before .before .before .before .pre) (d .sweep-once .ensures)
     (c .before .before .if1 .left) (c .if2 .taken)
 
 sub-left : tie.Need-sub-left Inv-loop μ-loop
@@ -48,7 +48,7 @@ loop-again : tie.Need-loop-again Inv-loop μ-loop
 loop-again c =
     let d = c .before .before .before .before .before in
     let l = d .before .before .before in
-    running-next (l .loop .inv) (d .before .before .loop-test .taken) (l .before .before .before .before .before .pre) (d .sweep .ensures)
+    running-next (l .loop .inv) (d .before .before .loop-test .taken) (l .before .before .before .before .before .pre) (d .sweep-once .ensures)
     (c .before .before .if1 .left) (c .if2 .left)
 
 same-length-3 : tie.Need-same-length-3 Inv-loop μ-loop
@@ -64,7 +64,7 @@ propagate-spec =
     Inv-loop
     μ-loop
     loop-holds
-    sweep-requires
+    sweep-once-requires
     same-length
     returns
     same-length-2
