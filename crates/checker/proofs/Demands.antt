@@ -1,5 +1,5 @@
--- The three demands, as theorems over what `check` ensures. A call has a formula and a proof, the two work slices at entry, its answer,
--- and the two work slices at exit.
+-- The three demands, one after the other, and `demands`: that what `check` ensures gives them. A call has a formula and a proof, the two
+-- work slices at entry, its answer, and the two work slices at exit.
 -- Assumes nothing.
 use Prim.Native.Nat.{ℕ, _≤_}
 use mathlib.Core.Path.{_≡_, _∙_, subst}
@@ -7,47 +7,18 @@ use mathlib.Core.Logic.{_≢_, inl, inr}
 use mathlib.Core.List.{List, _++_}
 use native.Mathlib.Omega.{arith}
 use lib.ListN.{length, drop, replicate}
-use Rattle.paper.specs.declared.Reason.{Reason}
-use Rattle.paper.specs.declared.Reason.the-variants.{WorkShort, FileLong, FormulaField, OverLimit, FormulaCode, FormulaTwice, FormulaEnd, ProofField, ProofCode, ProofTwice, NumberNotLive, NumbersUsedUp, NotRup, NotTrivialised, NotPassing, ClauseLong}
 use Rattle.paper.specs.declared.Verdict.{Verdict}
-use Rattle.paper.specs.declared.Verdict.the-variants.{Refuted, Held, Refused}
+use Rattle.paper.specs.declared.Verdict.the-variants.{Refuted}
 use Rattle.paper.specs.Atoms.{Formula}
 use Rattle.paper.specs.Files.{File, ok}
 use Rattle.paper.specs.Stowages.{Stowage, Meets}
 use Rattle.paper.specs.Refusals.{read-formula}
-use Rattle.paper.specs.Answers.{numberOf, numbersOf, Within, Steps, Answer, work-short, file-long, formula-bad, proof-judged, memory-after, Carried}
+use Rattle.paper.specs.Answers.{numbersOf, Within, Steps, Answer, work-short, file-long, formula-bad, proof-judged, memory-after, Carried}
+use Rattle.paper.proofs.Reasons.{Listed, answer-listed}
 use Rattle.paper.proofs.Answering.{answer-once}
 use Rattle.paper.proofs.Demand3.{steps-taken, carries, carried-counted, steps-carry, refuted-unmet}
 use Rattle.checker.proofs.Memory.{left-alone, left-zero}
-
--- an answer of the paper's list
-abbrev pub Listed : Verdict → Type 0
-Listed (Refuted n) = Unit {0}
-Listed (Held n) = Unit {0}
-Listed (Refused f) = (1 ≤ numberOf (f .reason)) × (numberOf (f .reason) ≤ 16)
-
-listed-reason : (r : Reason) → (1 ≤ numberOf r) × (numberOf r ≤ 16)
-listed-reason WorkShort = (omega arith, omega arith)
-listed-reason FileLong = (omega arith, omega arith)
-listed-reason FormulaField = (omega arith, omega arith)
-listed-reason OverLimit = (omega arith, omega arith)
-listed-reason FormulaCode = (omega arith, omega arith)
-listed-reason FormulaTwice = (omega arith, omega arith)
-listed-reason FormulaEnd = (omega arith, omega arith)
-listed-reason ProofField = (omega arith, omega arith)
-listed-reason ProofCode = (omega arith, omega arith)
-listed-reason ProofTwice = (omega arith, omega arith)
-listed-reason NumberNotLive = (omega arith, omega arith)
-listed-reason NumbersUsedUp = (omega arith, omega arith)
-listed-reason NotRup = (omega arith, omega arith)
-listed-reason NotTrivialised = (omega arith, omega arith)
-listed-reason NotPassing = (omega arith, omega arith)
-listed-reason ClauseLong = (omega arith, omega arith)
-
-listed : (v : Verdict) → Listed v
-listed (Refuted n) = tt
-listed (Held n) = tt
-listed (Refused f) = listed-reason (f .reason)
+use Rattle.checker.proofs.check.Reads as check-reads
 
 -- the formula is read, and the call gets as far as the proof
 abbrev pub Reads : File → File → List ℕ → List ℕ → ℕ → Formula → ℕ → Type 0
@@ -79,7 +50,7 @@ module _ (formula proof : File) (words bytes : List ℕ) (r : Verdict) (words′
   pub demand-1 : Demand-1
   demand-1 =
       record {
-        one-of-the-list = listed r;
+        one-of-the-list = answer-listed answer;
         untouched = λ e. (left-words ∙ left-alone 16384 r words e, left-bytes ∙ left-alone 8192 r bytes e);
         zeroed = λ ne. (left-words ∙ left-zero 16384 r words ne, left-bytes ∙ left-zero 8192 r bytes ne);
       }
@@ -122,3 +93,9 @@ module _ (formula proof : File) (words bytes : List ℕ) (r : Verdict) (words′
       unmet : (n : ℕ) → r ≡ Refuted n
           → (vars : ℕ) × (F : Formula) × (next : ℕ) × (read-formula formula ≡ ok (vars, F, next)) × ((I : Stowage) → ¬ (Meets I F))
       unmet n e = refuted-unmet (length words) (length bytes) formula proof n (rw e at answer)
+
+-- What `check` ensures, as its source states it, gives the three demands.
+pub demands : (κs : _) (a : _) (r : Verdict) (s : _) (c : check-reads.Post κs a r s)
+    → Demand-1 _ _ _ _ r _ _ (c .0) (c .1 .0) (c .1 .1) × Demand-2 _ _ _ _ r _ _ (c .0) (c .1 .0) (c .1 .1) × Demand-3 _ _ _ _ r _ _ (c .0) (c .1 .0) (c .1 .1)
+demands κs a r s c =
+    (demand-1 _ _ _ _ r _ _ (c .0) (c .1 .0) (c .1 .1), demand-2 _ _ _ _ r _ _ (c .0) (c .1 .0) (c .1 .1), demand-3 _ _ _ _ r _ _ (c .0) (c .1 .0) (c .1 .1))

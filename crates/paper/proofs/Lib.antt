@@ -1,3 +1,4 @@
+pub mod Order
 pub mod Lists
 pub mod Valid
 pub mod Values

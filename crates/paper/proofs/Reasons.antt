@@ -183,3 +183,25 @@ not-reason-1 {v} w b (proof-judged i q s) e = side v (steps-reasons s) e
     side (Refuted n) h z = omega arith
     side (Held n) h z = omega arith
     side (Refused f) h z = omega arith
+
+-- what a verdict of the paper's list names: step 0 with the reasons of the call and the formula, a step that counts with those of a step
+abbrev pub Listed : Verdict → Type 0
+Listed (Refuted n) = Unit {0}
+Listed (Held n) = Unit {0}
+Listed (Refused f) =
+    ((f .step ≡ 0) × (((1 ≤ numberOf (f .reason)) × (numberOf (f .reason) ≤ 7)) ⊎ (numberOf (f .reason) ≡ 16))) ⊎ (OfStep (f .reason) × (1 ≤ f .step))
+
+pub answer-listed : {words bytes : ℕ} {formula proof : File} {v : Verdict} → Answer words bytes formula proof v → Listed v
+answer-listed (work-short h) = inl (refl, inl (omega arith, omega arith))
+answer-listed (file-long a b h) = inl (refl, inl (omega arith, omega arith))
+answer-listed {formula} (formula-bad {r} {p} w e) = inl (refl, go (formula-reasons formula r p e))
+  where
+    go : OfFormula r → ((1 ≤ numberOf r) × (numberOf r ≤ 7)) ⊎ (numberOf r ≡ 16)
+    go (inl h) = inl (omega arith, h .1)
+    go (inr h) = inr h
+answer-listed {v} (proof-judged w e s) = go v (steps-reasons s)
+  where
+    go : (x : Verdict) → OfSteps x → Listed x
+    go (Refuted n) h = tt
+    go (Held n) h = tt
+    go (Refused f) h = inr h
