@@ -2,7 +2,7 @@
 
 use crate::files::{CLAUSE, DELETE, MODULO, RUP, SR, WITNESS, WSR};
 use crate::pack::Case;
-use crate::writer::{code, codes, field, formula, head};
+use crate::writer::{code, codes, delete, field, formula, head};
 
 /// A step in parts, a field each; none where the field is left out.
 #[derive(Clone)]
@@ -115,9 +115,38 @@ fn of_numbers(at: usize) -> Vec<Fault> {
     }
 }
 
-/// V=3 with the clauses of F3 and one more, which the steps below are taken over.
+/// Puts other values into a field, if it is there.
+fn set(parts: &mut Parts, at: usize, twos: &[u32]) {
+    parts.part(at, |part| part.twos = twos.to_vec());
+}
+
+/// A step in order whose condition fails: C is not RUP, or not trivialised.
+fn of_condition() -> Fault {
+    Box::new(|parts| set(parts, 0, &codes(&[-2])))
+}
+
+/// The first clause of the base doesn't pass.
+fn of_passing() -> Fault {
+    Box::new(|parts| {
+        set(parts, 0, &codes(&[-2]));
+        set(parts, 1, &[2, 1]);
+    })
+}
+
+/// All clauses are named in MODULO, and C itself doesn't pass.
+fn of_passing_itself() -> Fault {
+    Box::new(|parts| {
+        set(parts, 0, &codes(&[-2]));
+        set(parts, 1, &[]);
+        set(parts, 2, &[1, 2, 3, 4]);
+    })
+}
+
+/// With V=3, the clauses of F3 and one more, which the steps below are taken over.
+const BASE: [&[i32]; 4] = [&[-1, 2], &[2, 3], &[2, -3], &[1, 3]];
+
 fn base() -> Vec<u8> {
-    formula(3, &[&[-1, 2], &[2, 3], &[2, -3], &[1, 3]])
+    formula(3, &BASE)
 }
 
 /// A step of each kind that is taken, with the faults that fit its fields.
@@ -128,11 +157,17 @@ fn kinds() -> Vec<(Parts, Vec<Fault>)> {
     vec![
         (
             Parts::new(&[(RUP, clause.clone())]),
-            joined(vec![of_field(0), of_clause()]),
+            joined(vec![of_field(0), of_clause(), vec![of_condition()]]),
         ),
         (
             Parts::new(&[(SR, clause.clone()), (WITNESS, witness.clone())]),
-            joined(vec![of_field(0), of_field(1), of_clause(), of_witness()]),
+            joined(vec![
+                of_field(0),
+                of_field(1),
+                of_clause(),
+                of_witness(),
+                vec![of_condition(), of_passing()],
+            ]),
         ),
         (
             Parts::new(&[(WSR, clause), (WITNESS, witness), (MODULO, vec![2, 3])]),
@@ -143,6 +178,7 @@ fn kinds() -> Vec<(Parts, Vec<Fault>)> {
                 of_clause(),
                 of_witness(),
                 of_numbers(2),
+                vec![of_passing(), of_passing_itself()],
             ]),
         ),
         (
@@ -169,25 +205,42 @@ pub fn in_one_step() -> Vec<Case> {
     all
 }
 
-/// One fault in each of two steps: "The first step with a fault is the one answered".
+/// One fault in each of two steps, every two in both orders: "The first step with a fault is the one answered".
 pub fn in_two_steps() -> Vec<Case> {
-    let kinds = kinds();
+    let steps = with_one_fault();
     let mut all = Vec::new();
-    for (one, (parts, faults)) in kinds.iter().enumerate() {
-        for (other, (later, later_faults)) in kinds.iter().enumerate() {
-            // All pairs of faults would be many: each fault meets every third one of the other step.
-            for (a, first) in faults.iter().enumerate() {
-                for (b, second) in later_faults.iter().enumerate() {
-                    if (a + b + one + other) % 3 != 0 {
-                        continue;
-                    }
-                    let (mut step, mut next) = (parts.clone(), later.clone());
-                    first(&mut step);
-                    second(&mut next);
-                    all.push(Case::new(base(), [step.bytes(), next.bytes()].concat()));
-                }
-            }
+    for first in &steps {
+        for second in &steps {
+            all.push(Case::new(base(), [&first[..], second].concat()));
         }
+    }
+    all
+}
+
+/// A step of each kind with each of its faults.
+fn with_one_fault() -> Vec<Vec<u8>> {
+    let mut all = Vec::new();
+    for (parts, faults) in kinds() {
+        for fault in &faults {
+            let mut step = parts.clone();
+            fault(&mut step);
+            all.push(step.bytes());
+        }
+    }
+    all
+}
+
+/// Each fault in a step whose clause would get number 16,384, alone and after a deletion: what comes before 12, and what after.
+pub fn past_the_last_number() -> Vec<Case> {
+    let mut clauses = BASE.to_vec();
+    clauses.resize(16_383, &[]);
+    let full = formula(3, &clauses);
+    let sound = kinds().into_iter().map(|(parts, _)| parts.bytes());
+    let mut all = Vec::new();
+    for step in sound.chain(with_one_fault()) {
+        let later = [delete(&[16_383]), step.clone()].concat();
+        all.push(Case::new(full.clone(), step));
+        all.push(Case::new(full.clone(), later));
     }
     all
 }

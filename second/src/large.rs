@@ -1,9 +1,9 @@
 //! The large pack: both sides of the limits that need large files, long chains and wide clauses.
 
+use crate::faults;
 use crate::files::{CLAUSE, MOST_FILE};
-use crate::judge::WORDS;
+use crate::judge::{BYTES, WORDS};
 use crate::pack::Case;
-use crate::pigeon;
 use crate::writer::{code, codes, delete, field, formula_of_codes, head, raw_field, rup, sr, wsr};
 
 pub fn cases() -> Vec<Case> {
@@ -14,10 +14,9 @@ pub fn cases() -> Vec<Case> {
     all.extend(long_proofs());
     all.extend(wide_clauses());
     all.extend(chains());
-    for n in [5, 6, 8, 10] {
-        let (formula, proof) = pigeon::files(n);
-        all.push(Case::new(formula, proof));
-    }
+    all.extend(both_long());
+    all.extend(too_long_beside_others());
+    all.extend(faults::past_the_last_number());
     all
 }
 
@@ -110,8 +109,8 @@ fn last_number() -> Vec<Case> {
     all
 }
 
-/// A valid formula of exactly 1,048,576 bytes, one more, and one more beside shorter work memory.
-fn long_formulas() -> Vec<Case> {
+/// 129 clauses in exactly 1,048,576 bytes, the last one empty.
+fn longest_formula() -> Vec<u8> {
     let literals: Vec<u32> = (1..=4_095).map(|v| 2 * v + v % 2).collect();
     let mut clauses = vec![literals.clone(); 127];
     // What is left takes two clauses, since 7 bytes and three a clause have to come out even.
@@ -120,6 +119,12 @@ fn long_formulas() -> Vec<Case> {
     clauses.push(Vec::new());
     let exact = formula_of_codes(4_095, &clauses);
     assert_eq!(exact.len(), MOST_FILE);
+    exact
+}
+
+/// A valid formula of exactly 1,048,576 bytes, one more, and one more beside shorter work memory.
+fn long_formulas() -> Vec<Case> {
+    let exact = longest_formula();
     let longer = [&exact[..], &[0]].concat();
     let mut short_memory = Case::new(longer.clone(), Vec::new());
     short_memory.words = WORDS - 1;
@@ -164,6 +169,48 @@ fn long_proofs() -> Vec<Case> {
         Case::new(one.clone(), cut),
         Case::new(one, steps),
     ]
+}
+
+/// Both files of exactly 1,048,576 bytes, which leaves room for 349,524 steps; then each of them, and both, a byte longer.
+fn both_long() -> Vec<Case> {
+    let formula = longest_formula();
+    let empty = (MOST_FILE - 7) / 3;
+    let proof = [delete(&[128, 129]), delete(&[]).repeat(empty)].concat();
+    assert_eq!(proof.len(), MOST_FILE);
+    let longer = |file: &[u8]| [file, &[0x14]].concat();
+    vec![
+        Case::new(formula.clone(), proof.clone()),
+        Case::new(longer(&formula), proof.clone()),
+        Case::new(formula.clone(), longer(&proof)),
+        Case::new(longer(&formula), longer(&proof)),
+    ]
+}
+
+/// A proof a byte too long beside each fault of a formula, which it hides, and beside short work memory, which hides it.
+fn too_long_beside_others() -> Vec<Case> {
+    let proof = vec![0x14; MOST_FILE + 1];
+    let formulas = [
+        Vec::new(),
+        vec![0x02, 0, 0],
+        head(4_096, 0),
+        formula_of_codes(1, &[vec![4]]),
+        formula_of_codes(1, &[vec![2, 3]]),
+        head(1, 1),
+    ];
+    let mut all: Vec<Case> = formulas
+        .into_iter()
+        .map(|formula| Case::new(formula, proof.clone()))
+        .collect();
+    for (words, bytes) in [
+        (WORDS - 1, BYTES),
+        (WORDS, BYTES - 1),
+        (WORDS + 1, BYTES + 1),
+    ] {
+        let mut case = Case::new(head(0, 0), proof.clone());
+        (case.words, case.bytes) = (words, bytes);
+        all.push(case);
+    }
+    all
 }
 
 /// Clauses and witnesses of all 4,095 variables, and lists longer than any clause can be.

@@ -9,8 +9,10 @@ mod large;
 mod pack;
 mod pigeon;
 mod random;
+mod refutations;
 mod rules;
 mod seeds;
+mod stored;
 mod stowage;
 mod systematic;
 #[cfg(test)]
@@ -22,9 +24,8 @@ use std::path::Path;
 use std::process::ExitCode;
 
 const USAGE: &str = "second answer FORMULA PROOF
-second cases
-second pack systematic OUTDIR
-second pack large OUTDIR
+second cases [OUTDIR]
+second pack stored|systematic|bytes|pigeons|large OUTDIR
 second pack random SEED COUNT OUTDIR
 second stowages SEED COUNT
 second counts FILE.lines...
@@ -36,8 +37,8 @@ fn main() -> ExitCode {
     let done = match words[..] {
         ["answer", formula, proof] => answer(formula, proof),
         ["cases"] => hand_cases(),
-        ["pack", "systematic", folder] => pack(folder, "systematic", &systematic::cases()),
-        ["pack", "large", folder] => pack(folder, "large", &large::cases()),
+        ["cases", folder] => hand_cases().and_then(|()| hand_files(Path::new(folder))),
+        ["pack", name, folder] => fixed(name).and_then(|cases| pack(folder, name, &cases)),
         ["pack", "random", seed, count, folder] => {
             numbers(seed, count).and_then(|(seed, count)| {
                 let name = format!("random-{seed}");
@@ -93,6 +94,36 @@ fn hand_cases() -> Done {
         Ok(())
     } else {
         Err("a case differs from the paper".to_string())
+    }
+}
+
+/// The files of cases A to M, as A.formula and A.proof, with the paper's line as A.line.
+fn hand_files(folder: &Path) -> Done {
+    let write = |name: String, bytes: &[u8]| std::fs::write(folder.join(name), bytes);
+    let all = || -> std::io::Result<()> {
+        std::fs::create_dir_all(folder)?;
+        for case in cases::cases() {
+            write(format!("{}.formula", case.name), &case.formula)?;
+            write(format!("{}.proof", case.name), &case.proof)?;
+            write(
+                format!("{}.line", case.name),
+                format!("{}\n", case.line).as_bytes(),
+            )?;
+        }
+        Ok(())
+    };
+    all().map_err(|error| error.to_string())
+}
+
+/// The packs that have no seed.
+fn fixed(name: &str) -> Result<Vec<pack::Case>, String> {
+    match name {
+        "stored" => Ok(stored::cases()),
+        "systematic" => Ok(systematic::cases()),
+        "bytes" => Ok(systematic::every_byte()),
+        "pigeons" => Ok(refutations::cases()),
+        "large" => Ok(large::cases()),
+        _ => Err(USAGE.to_string()),
     }
 }
 

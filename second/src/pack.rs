@@ -52,15 +52,18 @@ pub fn write(folder: &Path, name: &str, cases: &[Case]) -> std::io::Result<()> {
 pub fn counts(lines: &str) -> BTreeMap<String, usize> {
     let mut counts = BTreeMap::new();
     for line in lines.lines() {
-        let fields: Vec<&str> = line.split(' ').collect();
-        let key = match fields[..] {
-            ["refused", reason, ..] => format!("refused {reason:>2}"),
-            [verdict, ..] => verdict.to_string(),
-            [] => continue,
-        };
-        *counts.entry(key).or_insert(0) += 1;
+        *counts.entry(key(line)).or_insert(0) += 1;
     }
     counts
+}
+
+/// What a line is counted under: its verdict, and its reason if it is refused.
+pub fn key(line: &str) -> String {
+    let mut fields = line.split(' ');
+    match (fields.next(), fields.next()) {
+        (Some("refused"), Some(reason)) => format!("refused {reason:>2}"),
+        (verdict, _) => verdict.unwrap_or_default().to_string(),
+    }
 }
 
 /// The reasons from 1 to 15 that never come up; 16 can't, since 5, 6, 9 and 10 come before it.

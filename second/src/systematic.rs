@@ -1,8 +1,8 @@
-//! The systematic pack: cases A to M, every byte changed, every cut, fields moved, two faults at once, small limits.
+//! The systematic pack: cases A to M, every byte changed, every cut, fields moved, two faults at once, small limits; and the pack of bytes.
 
 use crate::cases;
 use crate::faults;
-use crate::files::{MOST_FILE, RUP, SR, TAGS};
+use crate::files::{MOST_FILE, TAGS};
 use crate::judge::{BYTES, WORDS};
 use crate::pack::Case;
 use crate::pigeon;
@@ -18,26 +18,45 @@ pub fn cases() -> Vec<Case> {
     for files in &small {
         all.push(Case::new(files.0.clone(), files.1.clone()));
         all.extend(truncations(files));
-        all.extend(byte_changes(files, true));
+        all.extend(byte_changes(files, |byte| telling(byte, true)));
         all.extend(field_moves(files));
         all.extend(field_edges(files));
     }
     let pigeons = pigeon::files(3);
     all.extend(truncations(&pigeons));
-    all.extend(byte_changes(&pigeons, false));
+    all.extend(byte_changes(&pigeons, |byte| telling(byte, false)));
     all.extend(field_moves(&pigeons));
-    for n in 1..=4 {
-        all.extend(damaged_pigeons(n));
-    }
     all.extend(faults::in_one_step());
     all.extend(faults::in_two_steps());
     all.extend(faults::in_formulas());
     all.extend(slices(&small));
     all.extend(small_limits());
-    // Two ways of damage often make the same case, which is wanted once.
+    once(all)
+}
+
+/// Two ways of damage often make the same case, which is wanted once.
+fn once(mut all: Vec<Case>) -> Vec<Case> {
     let mut seen = BTreeSet::new();
     all.retain(|case| seen.insert(case.clone()));
     all
+}
+
+/// The pack of bytes: every byte of the files of cases A, E, I and K set to every other value.
+pub fn every_byte() -> Vec<Case> {
+    let chosen = cases::cases()
+        .into_iter()
+        .filter(|case| "AEIK".contains(case.name));
+    let every: BTreeSet<u8> = (0..=255).collect();
+    let changes =
+        chosen.flat_map(|case| byte_changes(&(case.formula, case.proof), |_| every.clone()));
+    once(changes.collect())
+}
+
+/// The values that tell most beside a byte: its neighbours and the ends; the tags too where they are asked for.
+fn telling(byte: u8, with_tags: bool) -> BTreeSet<u8> {
+    let near = [0, 1, 255, byte.wrapping_sub(1), byte.wrapping_add(1)];
+    let tags: &[u8] = if with_tags { &TAGS } else { &[] };
+    near.into_iter().chain(tags.iter().copied()).collect()
 }
 
 /// Cases A to M, and a few more whose steps are taken in other ways.
@@ -78,18 +97,14 @@ fn truncations(files: &Files) -> Vec<Case> {
     all
 }
 
-fn byte_changes(files: &Files, with_tags: bool) -> Vec<Case> {
+fn byte_changes(files: &Files, values: impl Fn(u8) -> BTreeSet<u8>) -> Vec<Case> {
     let changed = |file: &[u8]| -> Vec<Vec<u8>> {
         let mut all = Vec::new();
         for at in 0..file.len() {
-            let byte = file[at];
-            let near = [0, 1, 255, byte.wrapping_sub(1), byte.wrapping_add(1)];
-            let mut values: BTreeSet<u8> = near.into_iter().collect();
-            if with_tags {
-                values.extend(TAGS);
-            }
-            values.remove(&byte);
-            for value in values {
+            for value in values(file[at]) {
+                if value == file[at] {
+                    continue;
+                }
                 let mut copy = file.to_vec();
                 copy[at] = value;
                 all.push(copy);
@@ -123,9 +138,9 @@ fn field_moves(files: &Files) -> Vec<Case> {
             let mut cut = fields.clone();
             cut.remove(at);
             all.push(cut.concat());
-            if at + 1 < fields.len() {
+            for other in at + 1..fields.len() {
                 let mut swapped = fields.clone();
-                swapped.swap(at, at + 1);
+                swapped.swap(at, other);
                 all.push(swapped.concat());
             }
         }
@@ -153,41 +168,6 @@ fn field_edges(files: &Files) -> Vec<Case> {
         }
         all
     })
-}
-
-/// Each step of the refutation left out, doubled, given another kind, or with one value changed.
-fn damaged_pigeons(n: i32) -> Vec<Case> {
-    let (formula, steps) = pigeon::steps(n);
-    let mut all = vec![Case::new(formula.clone(), steps.concat())];
-    for at in 0..steps.len() {
-        let mut others: Vec<Vec<u8>> = vec![Vec::new(), steps[at].repeat(2)];
-        let fields = pieces(&steps[at]);
-        let mut as_rup = fields[0].clone();
-        as_rup[0] = RUP;
-        others.push(as_rup);
-        let mut as_sr = fields[..2].concat();
-        as_sr[0] = SR;
-        others.push(as_sr);
-        for field in 0..3 {
-            let payload = &fields[field][3..];
-            if payload.is_empty() {
-                continue;
-            }
-            let mut last_flipped = fields.clone();
-            *last_flipped[field].last_mut().expect("not empty") ^= 1;
-            others.push(last_flipped.concat());
-            let unit = if field == 1 { 4 } else { 2 };
-            let mut first_gone = fields.clone();
-            first_gone[field] = writer::raw_field(fields[field][0], &payload[unit..]);
-            others.push(first_gone.concat());
-        }
-        for other in others {
-            let mut damaged = steps.clone();
-            damaged[at] = other;
-            all.push(Case::new(formula.clone(), damaged.concat()));
-        }
-    }
-    all
 }
 
 /// "a work slice too short", one short, exact and longer, alone and with other faults that it hides.
