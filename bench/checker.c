@@ -56,7 +56,7 @@ static const uint8_t *clause_at(const struct work *w, size_t n, size_t *size) {
     return tag + 3;
 }
 
-/* The place of the first fault of a clause's codes in f.place, and 1 (out of range), 2 (a variable twice) or 3 (too many); 0 if none. */
+/* What is wrong with a clause's codes: 1 (one out of range) or 2 (a variable twice), with its place; 3 (too many); 0 if nothing is. */
 static int check_clause(const uint8_t *s, struct extent e, size_t vars, uint8_t *t, size_t *place) {
     size_t i, k, end = e.start + e.size;
     for (i = e.start; i < end; i += 2) {
