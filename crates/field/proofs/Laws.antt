@@ -43,15 +43,25 @@ module _ (f : File) (at : ℕ) where
       e
       (simp (leb-beyond (length f) at h, leb-within (at + 3) (length f) (omega arith), leb-within (at + 3 + two f (at + 1)) (length f) (omega arith), fieldAt))
 
+-- found: the reading finds that extent, and the cursor stands past it
+module _ (e : Extent) (n : Cursor) where
+  pub found-in : (x : Read Extent) → Found e n ≡ expectedOf x → x ≡ ok e
+  unfolding expectedOf
+  found-in (ok d) q = cc
+  found-in (bad r p) q = let z : _≡_ {A = ℕ} 0 1 = cc in absurd (omega arith)
+
+  pub found-next : (x : Read Extent) → Found e n ≡ expectedOf x → n .at ≡ past e
+  unfolding expectedOf
+  found-next (ok d) q =
+      let u : e ≡ d = cc in
+      let v : n ≡ record { at = past d } = cc in
+      ap (λ (c : Cursor). c .at) v ∙ ap past (sym u)
+  found-next (bad r p) q = let z : _≡_ {A = ℕ} 0 1 = cc in absurd (omega arith)
+
 module _ (why : Reason) (tag : ℕ) (allowed : ℕ → Bool) (f : File) (at : ℕ) where
   -- found: the paper's reading finds that extent
-  pub found : (e : Extent) → Found e ≡ expectedOf (field why tag allowed f at) → field why tag allowed f at ≡ ok e
-  unfolding expectedOf
-  found e q = go (field why tag allowed f at) q
-    where
-      go : (x : Read Extent) → Found e ≡ expectedOf x → x ≡ ok e
-      go (ok d) q = cc
-      go (bad r p) q = let z : _≡_ {A = ℕ} 0 1 = cc in absurd (omega arith)
+  pub found : (e : Extent) (n : Cursor) → Found e n ≡ expectedOf (field why tag allowed f at) → field why tag allowed f at ≡ ok e
+  found e n q = found-in e n (field why tag allowed f at) q
 
   -- wrong: the paper's reading refuses, at the place of the tag
   pub wrong : Wrong ≡ expectedOf (field why tag allowed f at) → field why tag allowed f at ≡ bad why at
@@ -106,11 +116,6 @@ stands why tag allowed f at e q =
     go true true true false t l h q = let z : _≡_ {A = ℕ} 0 1 = cc in absurd (omega arith)
     go true true true true t l h q = yes-stands (cc) t l h
 
--- found: so it stands there
-pub found-stands : (why : Reason) (tag : ℕ) (allowed : ℕ → Bool) (f : File) (at : ℕ) (e : Extent)
-    → Found e ≡ expectedOf (field why tag allowed f at) → Stands tag allowed f at e
-found-stands why tag allowed f at e q = stands why tag allowed f at e (found why tag allowed f at e q)
-
 pub judged-right : (why : Reason) (tag : ℕ) (allowed : ℕ → Bool) (f : File) (at : ℕ)
     → judged tag allowed (fieldAt f at) ≡ expectedOf (field why tag allowed f at)
 unfolding judged fieldAt extentAt field need _>>_ expectedOf
@@ -154,7 +159,7 @@ module _ (tag : ℕ) (allowed : ℕ → Bool) (t : ℕ) (e : Extent) (next : Cur
   unfolding judged
   other-tag ne = rw (eqb-other t tag ne, judged)
 
-  pub right-length : (b : Bool) → t ≡ tag → b ≡ allowed (e .size) → b ≡ true → Found e ≡ judged tag allowed (Whole t e next)
+  pub right-length : (b : Bool) → t ≡ tag → b ≡ allowed (e .size) → b ≡ true → Found e next ≡ judged tag allowed (Whole t e next)
   unfolding judged
   right-length b same q g = rw (eqb-same t tag same, judged) (rw (sym q ∙ g))
 

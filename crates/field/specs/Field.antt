@@ -38,12 +38,12 @@ allowedBy Fours = fours
 
 -- what a reading says of the field that must stand there
 unfoldable pub judged : ℕ → (ℕ → Bool) → FieldRead → Expected
-judged tag allowed (Whole t e next) = elim (eqb t tag) [ true ↦ elim (allowed (e .size)) [ true ↦ Found e | false ↦ Wrong ] | false ↦ Wrong ]
+judged tag allowed (Whole t e next) = elim (eqb t tag) [ true ↦ elim (allowed (e .size)) [ true ↦ Found e next | false ↦ Wrong ] | false ↦ Wrong ]
 judged tag allowed (Cut t n) = Wrong
 judged tag allowed (Short t) = Wrong
 judged tag allowed End = Wrong
 
--- what the paper's reading of a field finds, but for the reason and its place
+-- what the paper's reading of a field finds, and the cursor past it, but for the reason and its place
 unfoldable pub expectedOf : Read Extent → Expected
-expectedOf (ok e) = Found e
+expectedOf (ok e) = Found e (record { at = past e })
 expectedOf (bad r p) = Wrong

@@ -89,9 +89,9 @@ pub fn allowed(l: Length, n: usize) -> bool
     }
 }
 
-// The field that must stand at a place, if it does.
+// The field that must stand at a place, if it does, and the cursor past it.
 pub enum Expected {
-    Found(Extent),
+    Found { extent: Extent, next: Cursor },
     Wrong,
 }
 
@@ -103,14 +103,14 @@ pub fn judge(read: FieldRead, tag: u8, l: Length) -> Expected
         FieldRead::Whole {
             tag: t,
             extent,
-            next: _,
+            next,
         } => {
             if t != tag {
                 return Expected::Wrong;
             }
             let size = extent.size;
             if allowed(l, size) {
-                Expected::Found(extent)
+                Expected::Found { extent, next }
             } else {
                 Expected::Wrong
             }

@@ -1,6 +1,6 @@
 -- One clause as the code reads it, against the paper's reading of the clauses.
 -- Assumes nothing.
-use Prim.Native.Nat.{ℕ, suc, _+_, _-_, _%_, _≤_, _<_}
+use Prim.Native.Nat.{ℕ, suc, _-_, _%_, _≤_, _<_}
 use mathlib.Core.Path.{_≡_, refl, sym, ap, subst, _∙_}
 use mathlib.Core.List.{[], _∷_, _++_, append-nil, append-assoc}
 use native.Mathlib.Omega.{arith}
@@ -74,13 +74,14 @@ module _ (f : File) (vars at : ℕ) where
         unfolding read-clauses _>>_ _>>=_ need
         clause-bad reason p k m n = rw (lt-ltb at (length f) h, q, checked ∙ k)
 
-        pub clause-taken : clauseSaid FormulaCode FormulaTwice at s ≡ ok tt → ClauseTaken f vars at (e .start + e .size)
-        unfolding read-clauses _>>_ _>>=_ need past
-        clause-taken k = record {
+        -- the next clause is read where the cursor past this one stands
+        pub clause-taken : clauseSaid FormulaCode FormulaTwice at s ≡ ok tt → (next : ℕ) → next ≡ past e → ClauseTaken f vars at next
+        unfolding read-clauses _>>_ _>>=_ need
+        clause-taken k next g = record {
           extent = e;
           starts = h;
           stands = q;
-          read = λ m n. rw (lt-ltb at (length f) h, q, checked ∙ k) (prepend-one n (codes (payload f e)) (read-clauses f vars m (suc n) (e .start + e .size)));
+          read = λ m n. rw g (rw (lt-ltb at (length f) h, q, checked ∙ k) (prepend-one n (codes (payload f e)) (read-clauses f vars m (suc n) (past e))));
         }
 
 -- the code's answer under another name for it

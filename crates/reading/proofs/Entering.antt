@@ -18,35 +18,35 @@ use Rattle.lookup.proofs.Live.{live-none, formula-entered, entered-above}
 use Rattle.reading.specs.Reading.{prepend, ClauseTaken, ClausesTaken}
 use Rattle.reading.proofs.Clause.{prepend-none, prepend-more, prepend-end}
 
--- ws₀ and t₀ are the words and the table at entry; ws and t those at the place at, where clause k is next
-pub record Entering (f : File) (vars m : ℕ) (ws₀ t₀ ws t : List ℕ) (at k : ℕ) : Type 0 where
+-- first is the place of the first clause; ws₀ and t₀ are the words and the table at entry; ws and t those at the place at, where clause k is next
+pub record Entering (f : File) (vars m first : ℕ) (ws₀ t₀ ws t : List ℕ) (at k : ℕ) : Type 0 where
   pub from : 1 ≤ k
   pub to : k ≤ m + 1
   pub long : length ws ≡ length ws₀
   pub table : t ≡ t₀
   pub above : (j : ℕ) → k ≤ j → getD ws j 0 ≡ 0
-  pub rest : (p : File) → read-clauses f vars m 1 7 ≡ prepend (live f p ws) (read-clauses f vars (m + 1 - k) k at)
+  pub rest : (p : File) → read-clauses f vars m 1 first ≡ prepend (live f p ws) (read-clauses f vars (m + 1 - k) k at)
 
-pub entering-start : (f : File) (vars m : ℕ) (ws t : List ℕ) → Zero ws → Entering f vars m ws t ws t 7 1
-entering-start f vars m ws t z = record {
+pub entering-start : (f : File) (vars m first : ℕ) (ws t : List ℕ) → Zero ws → Entering f vars m first ws t ws t first 1
+entering-start f vars m first ws t z = record {
   from = omega arith;
   to = omega arith;
   long = refl;
   table = refl;
   above = λ j h. z j;
-  rest = λ p. sym (ap (λ (F : Formula). prepend F (read-clauses f vars (m + 1 - 1) 1 7)) (live-none f p ws z) ∙ prepend-none _ ∙ all);
+  rest = λ p. sym (ap (λ (F : Formula). prepend F (read-clauses f vars (m + 1 - 1) 1 first)) (live-none f p ws z) ∙ prepend-none _ ∙ all);
 }
   where
-    all : read-clauses f vars (m + 1 - 1) 1 7 ≡ read-clauses f vars m 1 7
+    all : read-clauses f vars (m + 1 - 1) 1 first ≡ read-clauses f vars m 1 first
     all = let e : m + 1 - 1 ≡ m = omega arith in rw e
 
-module _ {f : File} {vars m : ℕ} {ws₀ t₀ ws t : List ℕ} {at k : ℕ} (i : Entering f vars m ws₀ t₀ ws t at k) where
+module _ {f : File} {vars m first : ℕ} {ws₀ t₀ ws t : List ℕ} {at k : ℕ} (i : Entering f vars m first ws₀ t₀ ws t at k) where
   -- a clause is left to read
   left : k ≤ m → m + 1 - k ≡ suc (m + 1 - (k + 1))
   left h = omega arith
 
   pub entering-turn : k ≤ m → length f ≤ 1048576 → m < length ws₀ → (next : ℕ) → ClauseTaken f vars at next → (us : List ℕ)
-      → us ≡ set ws k (formulaWord at) → (u : List ℕ) → u ≡ t → Entering f vars m ws₀ t₀ us u next (k + 1)
+      → us ≡ set ws k (formulaWord at) → (u : List ℕ) → u ≡ t → Entering f vars m first ws₀ t₀ us u next (k + 1)
   entering-turn h short room next c us e u q = record {
     from = omega arith;
     to = omega arith;
@@ -62,7 +62,7 @@ module _ {f : File} {vars m : ℕ} {ws₀ t₀ ws t : List ℕ} {at k : ℕ} (i 
       inside : k < length ws
       inside = let l = i .long in omega arith
 
-      rest : (p : File) → read-clauses f vars m 1 7 ≡ prepend (live f p us) (read-clauses f vars (m + 1 - (k + 1)) (k + 1) next)
+      rest : (p : File) → read-clauses f vars m 1 first ≡ prepend (live f p us) (read-clauses f vars (m + 1 - (k + 1)) (k + 1) next)
       rest p =
           i .rest p
           ∙ ap (λ (j : ℕ). prepend (live f p ws) (read-clauses f vars j k at)) (left h)
@@ -73,14 +73,14 @@ module _ {f : File} {vars m : ℕ} {ws₀ t₀ ws t : List ℕ} {at k : ℕ} (i 
           ∙ ap (λ (n : ℕ). prepend (live f p us) (read-clauses f vars (m + 1 - (k + 1)) n next)) (sym (add-one k))
 
   pub entering-bad : k ≤ m → (reason : Reason) (place : ℕ) → ((j n : ℕ) → read-clauses f vars (suc j) n at ≡ bad reason place)
-      → read-clauses f vars m 1 7 ≡ bad reason place
+      → read-clauses f vars m 1 first ≡ bad reason place
   unfolding prepend
   entering-bad h reason place b =
       i .rest []
       ∙ ap (λ (j : ℕ). prepend (live f [] ws) (read-clauses f vars j k at)) (left h)
       ∙ ap (prepend (live f [] ws)) (b (m + 1 - (k + 1)) k)
 
-  pub entering-end : m < k → ClausesTaken f vars m at ws
+  pub entering-end : m < k → ClausesTaken f vars m first at ws
   unfolding read-clauses
   entering-end h = record {
     read = λ p.

@@ -21,19 +21,20 @@ use Rattle.reading.specs.Reading.{ended, HeadTaken, HeadSaid, ClausesTak
 pub head-said-as : (f : File) (r s : HeadRead) → HeadSaid f r → r ≡ s → HeadSaid f s
 head-said-as f r s k e = subst (λ (x : HeadRead). HeadSaid f x) e k
 
-pub clauses-said-as : (f : File) (vars m : ℕ) (ws : List ℕ) (r s : ClauseRead) → ClausesSaid f vars m ws r → r ≡ s → ClausesSaid f vars m ws s
-clauses-said-as f vars m ws r s k e = subst (λ (x : ClauseRead). ClausesSaid f vars m ws x) e k
+pub clauses-said-as : (f : File) (vars m first : ℕ) (ws : List ℕ) (r s : ClauseRead) → ClausesSaid f vars m first ws r → r ≡ s
+    → ClausesSaid f vars m first ws s
+clauses-said-as f vars m first ws r s k e = subst (λ (x : ClauseRead). ClausesSaid f vars m first ws x) e k
 
 -- words that were zero, zeroed again
 pub zeroed : (ws zs : List ℕ) (n : ℕ) → Zero ws → n ≡ length ws → zs ≡ replicate n 0 → zs ≡ ws
 zeroed ws zs n z l e = e ∙ ap (λ (m : ℕ). replicate m 0) l ∙ sym (zero-replicate ws z)
 
-module _ (f : File) (vars m : ℕ) (h : HeadTaken f vars m) where
-  pub clauses-refused : (reason : Reason) (place : ℕ) → read-clauses f vars m 1 7 ≡ bad reason place → read-formula f ≡ bad reason place
+module _ (f : File) (vars m first : ℕ) (h : HeadTaken f vars m first) where
+  pub clauses-refused : (reason : Reason) (place : ℕ) → read-clauses f vars m 1 first ≡ bad reason place → read-formula f ≡ bad reason place
   unfolding ended _>>=_
   clauses-refused reason place q = h .read ∙ ap (ended f vars m) q
 
-  module _ (at : ℕ) (ws : List ℕ) (c : ClausesTaken f vars m at ws) where
+  module _ (at : ℕ) (ws : List ℕ) (c : ClausesTaken f vars m first at ws) where
     -- "bytes follow clause m"
     pub bytes-follow : at < length f → read-formula f ≡ bad FormulaEnd at
     unfolding ended _>>=_ _>>_ need

@@ -29,13 +29,6 @@ module _ (f : File) where
         let n = head-size in
         omega arith
 
-    head-past : past e ≡ 7
-    unfolding past
-    head-past =
-        let s = stands FormulaField 0x01 four f 0 e q in
-        let n = head-size in
-        omega arith
-
     pub head-vars-over : (v : ℕ) → v ≡ two f 3 → 4095 < v → read-formula f ≡ bad OverLimit 0
     unfolding read-formula _>>=_ _>>_ need
     head-vars-over v a h = rw (q, leb-beyond (two f 3) 4095 (omega arith))
@@ -45,10 +38,11 @@ module _ (f : File) where
       unfolding read-formula _>>=_ _>>_ need
       head-clauses-over k = rw (q, leb-within (two f 3) 4095 (omega arith), leb-beyond (two f 5) 16383 (omega arith))
 
-      pub head-taken : m ≤ 16383 → HeadTaken f v m
+      -- the clauses follow where the cursor past HEAD stands
+      pub head-taken : m ≤ 16383 → (first : ℕ) → first ≡ past e → HeadTaken f v m first
       unfolding read-formula ended _>>=_ _>>_ need
-      head-taken k = record {
+      head-taken k first g = record {
         variables = h;
         clauses = k;
-        read = rw (q, leb-within (two f 3) 4095 (omega arith), leb-within (two f 5) 16383 (omega arith), head-past, ← a, ← b);
+        read = rw g (rw (q, leb-within (two f 3) 4095 (omega arith), leb-within (two f 5) 16383 (omega arith), ← a, ← b));
       }

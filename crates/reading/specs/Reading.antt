@@ -25,14 +25,14 @@ ended f vars m x = do
   need (leb (length f) (F .1)) FormulaEnd (F .1)
   ok (vars, F .0, suc m)
 
--- HEAD was read: V and m are within their limits, and the clauses follow at place 7
-pub record HeadTaken (f : File) (vars m : ℕ) : Type 0 where
+-- HEAD was read: V and m are within their limits, and the clauses follow at the place first
+pub record HeadTaken (f : File) (vars m first : ℕ) : Type 0 where
   pub variables : vars ≤ 4095
   pub clauses : m ≤ 16383
-  pub read : read-formula f ≡ ended f vars m (read-clauses f vars m 1 7)
+  pub read : read-formula f ≡ ended f vars m (read-clauses f vars m 1 first)
 
 abbrev pub HeadSaid : File → HeadRead → Type 0
-HeadSaid f (Limits vars m) = HeadTaken f vars m
+HeadSaid f (Limits vars m first) = HeadTaken f vars m first
 HeadSaid f (BadHead reason place) = read-formula f ≡ bad reason place
 
 -- clauses in front of those that are read
@@ -51,14 +51,14 @@ abbrev pub ClauseSaid : File → ℕ → ℕ → ClauseRead → Type 0
 ClauseSaid f vars at (Next next) = ClauseTaken f vars at next
 ClauseSaid f vars at (BadClause reason place) = (m n : ℕ) → read-clauses f vars (suc m) n at ≡ bad reason place
 
--- m clauses were read, up to the place at: they are the live ones of the words
-pub record ClausesTaken (f : File) (vars m at : ℕ) (ws : List ℕ) : Type 0 where
-  pub read : (p : File) → read-clauses f vars m 1 7 ≡ ok (live f p ws, at)
+-- m clauses were read, from the place first up to the place at: they are the live ones of the words
+pub record ClausesTaken (f : File) (vars m first at : ℕ) (ws : List ℕ) : Type 0 where
+  pub read : (p : File) → read-clauses f vars m 1 first ≡ ok (live f p ws, at)
   pub above : (k : ℕ) → m + 1 ≤ k → getD ws k 0 ≡ 0
 
-abbrev pub ClausesSaid : File → ℕ → ℕ → List ℕ → ClauseRead → Type 0
-ClausesSaid f vars m ws (Next at) = ClausesTaken f vars m at ws
-ClausesSaid f vars m ws (BadClause reason place) = read-clauses f vars m 1 7 ≡ bad reason place
+abbrev pub ClausesSaid : File → ℕ → ℕ → ℕ → List ℕ → ClauseRead → Type 0
+ClausesSaid f vars m first ws (Next at) = ClausesTaken f vars m first at ws
+ClausesSaid f vars m first ws (BadClause reason place) = read-clauses f vars m 1 first ≡ bad reason place
 
 -- A formula was read: its clauses are the live ones of the words ws, whatever the proof is, and no word from next on is entered.
 pub record FormulaTaken (f : File) (vars next : ℕ) (ws₀ ws : List ℕ) : Type 0 where

@@ -9,10 +9,17 @@ ghost use lib.ListN.{length};
 ghost use Rattle.table.specs.Table.{Zero};
 ghost use Rattle.reading.specs.Reading.{HeadSaid, ClauseSaid, ClausesSaid, FormulaSaid};
 
-// V and m; or what is wrong with HEAD.
+// V, m and the place past HEAD; or what is wrong with HEAD.
 pub enum HeadRead {
-    Limits { vars: usize, clauses: usize },
-    Bad { reason: Reason, place: usize },
+    Limits {
+        vars: usize,
+        clauses: usize,
+        first: usize,
+    },
+    Bad {
+        reason: Reason,
+        place: usize,
+    },
 }
 
 fn read_head(formula: &[u8]) -> HeadRead
@@ -20,7 +27,7 @@ fn read_head(formula: &[u8]) -> HeadRead
 {
     let head = field::expect(formula, 0, 1, Length::Four);
     match head {
-        Expected::Found(_) => {
+        Expected::Found { extent: _, next } => {
             let vars = field::pair_at(formula, 3);
             let clauses = field::pair_at(formula, 5);
             if 4095 < vars {
@@ -35,7 +42,11 @@ fn read_head(formula: &[u8]) -> HeadRead
                     place: 0,
                 };
             }
-            HeadRead::Limits { vars, clauses }
+            HeadRead::Limits {
+                vars,
+                clauses,
+                first: next.at,
+            }
         }
         Expected::Wrong => HeadRead::Bad {
             reason: Reason::FormulaField,
@@ -62,17 +73,14 @@ fn read_clause(formula: &[u8], at: usize, vars: usize, t: &mut [u8]) -> ClauseRe
             place: at,
         };
     }
-    let Expected::Found(e) = field::expect(formula, at, 2, Length::Even) else {
+    let Expected::Found { extent: e, next } = field::expect(formula, at, 2, Length::Even) else {
         return ClauseRead::Bad {
             reason: Reason::FormulaField,
             place: at,
         };
     };
     match clauses::check_clause(formula, e, vars, t) {
-        ClauseCheck::Fine => {
-            let start = e.start;
-            ClauseRead::Next(start + e.size)
-        }
+        ClauseCheck::Fine => ClauseRead::Next(next.at),
         ClauseCheck::Range(place) => ClauseRead::Bad {
             reason: Reason::FormulaCode,
             place,
@@ -88,19 +96,20 @@ fn read_clause(formula: &[u8], at: usize, vars: usize, t: &mut [u8]) -> ClauseRe
     }
 }
 
-// The clauses from place 7 on, past HEAD, each entered under its number.
+// The clauses from the place past HEAD on, each entered under its number.
 fn enter_clauses(
     formula: &[u8],
     vars: usize,
     m: usize,
+    first: usize,
     words: &mut [u32],
     t: &mut [u8],
 ) -> ClauseRead
     requires { ⌜ (length (now formula) ≤ 1048576) × ((vars ≤ 4095) × ((m < length (now words)) × (Zero (now words) × ((8192 ≤ length (now t)) × Zero (now t))))) ⌝ }
-    ensures said { λ r. ⌜ ClausesSaid (now (formula .entry)) vars m (now (words .exit)) r ⌝ }
+    ensures said { λ r. ⌜ ClausesSaid (now (formula .entry)) vars m first (now (words .exit)) r ⌝ }
     ensures table { λ _. ⌜ now (t .exit) ≡ now (t .entry) ⌝ }
 {
-    let mut at: usize = 7;
+    let mut at: usize = first;
     let mut k: usize = 1;
     while k <= m {
         match read_clause(formula, at, vars, t) {
@@ -130,13 +139,11 @@ pub fn read_formula(formula: &[u8], words: &mut [u32], t: &mut [u8]) -> FormulaR
 {
     match read_head(formula) {
         HeadRead::Bad { reason, place } => FormulaRead::Bad { reason, place },
-        HeadRead::Limits { vars, clauses } => match enter_clauses(
-            formula,
+        HeadRead::Limits {
             vars,
             clauses,
-            words,
-            t,
-        ) {
+            first,
+        } => match enter_clauses(formula, vars, clauses, first, words, t) {
             ClauseRead::Bad { reason, place } => {
                 memory::zero_words(words);
                 FormulaRead::Bad { reason, place }

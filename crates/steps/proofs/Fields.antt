@@ -1,7 +1,7 @@
 -- The fields of a step: what the code's answer says of the paper's reading, and where they lie.
 -- Assumes nothing.
 use Prim.Native.Nat.{ℕ, _+_, _%_, _≤_, _<_}
-use mathlib.Core.Path.{_≡_, refl, subst}
+use mathlib.Core.Path.{_≡_, refl, ap, subst}
 use mathlib.Core.Logic.{_≢_}
 use mathlib.Core.Bool.{Bool, true, false, _&&_, true≢false}
 use native.Mathlib.Omega.{arith}
@@ -14,10 +14,11 @@ use Rattle.paper.specs.Files.{File, Read, ok, bad, _>>=_, _>>_, need, past, fie
 use Rattle.paper.specs.Refusals.{between, field-if, read-fields}
 use Rattle.paper.proofs.Lists.{eqb-yes, eqb-no, eqb-same, eqb-other, leb-yes, leb-within, leb-beyond}
 use Rattle.paper.proofs.Reading.{Then, then-bind, then-seq, need-then, between-yes}
+use Rattle.field.specs.declared.Cursor.{Cursor}
 use Rattle.field.specs.declared.Expected.{Expected}
 use Rattle.field.specs.declared.Expected.the-variants.{Found, Wrong}
 use Rattle.field.specs.Field.{expectedOf}
-use Rattle.field.proofs.Laws.{found, wrong, Stands, stands}
+use Rattle.field.proofs.Laws.{found-in, wrong, Stands, stands}
 use Rattle.paper.proofs.Reasons.{fields-reason}
 use Rattle.steps.specs.declared.FieldsRead.the-variants.{Whole, Bad}
 use Rattle.steps.specs.Steps.{fieldsOf}
@@ -36,20 +37,19 @@ module _ (b : Bool) (tag : ℕ) (allowed : ℕ → Bool) (f : File) (at : ℕ) w
   unfolding field-if
   asked e r q = rw e q
 
-  pub not-asked : b ≡ false → Found (record { start = at; size = 0 }) ≡ expectedOf (field-if b tag allowed f at)
-  unfolding field-if expectedOf
-  not-asked e = rw e
+  pub not-asked : b ≡ false → Found (record { start = at; size = 0 }) (record { at = at }) ≡ expectedOf (field-if b tag allowed f at)
+  unfolding field-if expectedOf past
+  not-asked e = let z : at ≡ at + 0 = omega arith in rw e (ap (λ (p : ℕ). Found (record { start = at; size = 0 }) (record { at = p })) z)
 
-pub same-test : (b d : Bool) (tag : ℕ) (allowed : ℕ → Bool) (f : File) (at : ℕ) (r : Expected) → b ≡ d → r ≡ expectedOf (field-if b tag allowed f at)
-    → r ≡ expectedOf (field-if d tag allowed f at)
-same-test b d tag allowed f at r e q = rw (← e) q
+-- the same test, at the same place
+pub same-test : (b d : Bool) (tag : ℕ) (allowed : ℕ → Bool) (f : File) (at p : ℕ) (r : Expected) → b ≡ d → at ≡ p
+    → r ≡ expectedOf (field-if b tag allowed f at) → r ≡ expectedOf (field-if d tag allowed f p)
+same-test b d tag allowed f at p r e h q = rw (← e) (rw (← h) q)
 
 -- found, or refused at its place
-pub found-if : (b : Bool) (tag : ℕ) (allowed : ℕ → Bool) (f : File) (at : ℕ) (e : Extent) → Found e ≡ expectedOf (field-if b tag allowed f at)
-    → field-if b tag allowed f at ≡ ok e
-unfolding field-if expectedOf
-found-if true tag allowed f at e q = found ProofField tag allowed f at e q
-found-if false tag allowed f at e q = cc
+pub found-if : (b : Bool) (tag : ℕ) (allowed : ℕ → Bool) (f : File) (at : ℕ) (e : Extent) (n : Cursor)
+    → Found e n ≡ expectedOf (field-if b tag allowed f at) → field-if b tag allowed f at ≡ ok e
+found-if b tag allowed f at e n q = found-in e n (field-if b tag allowed f at) q
 
 pub wrong-if : (b : Bool) (tag : ℕ) (allowed : ℕ → Bool) (f : File) (at : ℕ) → Wrong ≡ expectedOf (field-if b tag allowed f at)
     → field-if b tag allowed f at ≡ bad ProofField at
@@ -241,13 +241,15 @@ lie f at x q = subst (Then (Lie f at)) q (then-lie f at)
 
 -- 4. The code's answer from the paper's reading, and what a caller concludes from it.
 module _ (f : File) (at : ℕ) where
-  pub as-whole : (x : Fields) → read-fields f at ≡ ok x → Whole x ≡ fieldsOf (read-fields f at)
+  -- p is where the cursor stands that was handed back, n the place that the paper's reading gives
+  pub as-whole : (c w e : Extent) (p n : ℕ) → p ≡ n → read-fields f at ≡ ok (record { clause = c; witness = w; numbers = e; next = n })
+      → Whole (record { clause = c; witness = w; numbers = e; next = p }) ≡ fieldsOf (read-fields f at)
   unfolding fieldsOf
-  as-whole x q = rw q
+  as-whole c w e p n h q = rw h (rw q)
 
-  pub as-bad : (p : ℕ) → read-fields f at ≡ bad ProofField p → Bad p ≡ fieldsOf (read-fields f at)
+  pub as-bad : (p n : ℕ) → p ≡ n → read-fields f at ≡ bad ProofField n → Bad p ≡ fieldsOf (read-fields f at)
   unfolding fieldsOf
-  as-bad p q = rw q
+  as-bad p n h q = rw h (rw q)
 
   pub whole : (x : Fields) → Whole x ≡ fieldsOf (read-fields f at) → read-fields f at ≡ ok x
   unfolding fieldsOf

@@ -1,5 +1,6 @@
 // What is read and refused of one step of a proof: its fields (reason 8), the ranges of its witness (reason 9) and the clause
 // numbers that it names (reason 11); and the clause table cleared of those numbers.
+use field::Cursor;
 use field::Expected;
 use field::Length;
 use paper::Extent;
@@ -36,7 +37,10 @@ fn expect_if(s: &[u8], asked: bool, at: usize, tag: u8, l: Length) -> Expected
     if asked {
         return reader::expect(s, at, tag, l);
     }
-    Expected::Found(Extent { start: at, size: 0 })
+    Expected::Found {
+        extent: Extent { start: at, size: 0 },
+        next: Cursor { at },
+    }
 }
 
 pub fn read_fields(proof: &[u8], at: usize) -> FieldsRead
@@ -47,16 +51,17 @@ pub fn read_fields(proof: &[u8], at: usize) -> FieldsRead
     if !within(0x11, 0x14, tag) {
         return FieldsRead::Bad(at);
     }
-    let Expected::Found(c) = reader::expect(proof, at, tag, Length::Even) else {
+    let Expected::Found { extent: c, next } = reader::expect(proof, at, tag, Length::Even) else {
         return FieldsRead::Bad(at);
     };
-    let past_c = c.start + c.size;
-    let Expected::Found(w) = expect_if(proof, within(0x12, 0x13, tag), past_c, 0x21, Length::Fours)
-    else {
+    let past_c = next.at;
+    let witness = expect_if(proof, within(0x12, 0x13, tag), past_c, 0x21, Length::Fours);
+    let Expected::Found { extent: w, next } = witness else {
         return FieldsRead::Bad(past_c);
     };
-    let past_w = w.start + w.size;
-    let Expected::Found(n) = expect_if(proof, tag == 0x13, past_w, 0x22, Length::Even) else {
+    let past_w = next.at;
+    let modulo = expect_if(proof, tag == 0x13, past_w, 0x22, Length::Even);
+    let Expected::Found { extent: n, next } = modulo else {
         return FieldsRead::Bad(past_w);
     };
     if tag == 0x14 {
@@ -71,7 +76,7 @@ pub fn read_fields(proof: &[u8], at: usize) -> FieldsRead
         clause: c,
         witness: w,
         numbers: n,
-        next: n.start + n.size,
+        next: next.at,
     })
 }
 

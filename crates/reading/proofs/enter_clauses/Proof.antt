@@ -12,15 +12,15 @@ use Rattle.reading.proofs.enter_clauses.Statement.{statement}
 use Rattle.reading.proofs.enter_clauses.Tie as tie
 
 abbrev Inv-loop : tie.InvT-loop
-Inv-loop formula vars m words₀ t₀ at₀ k₀ words t at k = Entering formula vars m words₀ t₀ words t at k
+Inv-loop formula vars m first words₀ t₀ at₀ k₀ words t at k = Entering formula vars m first words₀ t₀ words t at k
 
 abbrev μ-loop : tie.MeasureT-loop
-μ-loop formula vars m words₀ t₀ at₀ k₀ words t at k = m + 1 - k
+μ-loop formula vars m first words₀ t₀ at₀ k₀ words t at k = m + 1 - k
 
 loop-holds : tie.Need-loop-holds Inv-loop μ-loop
 loop-holds c =
     let a = c .before .before .before in
-    entering-start _ _ _ _ _ (a .pre .1 .1 .1 .0)
+    entering-start _ _ _ _ _ _ (a .pre .1 .1 .1 .0)
 
 read-clause-requires : tie.Need-read-clause-requires Inv-loop μ-loop
 read-clause-requires c κs =

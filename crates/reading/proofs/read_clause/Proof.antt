@@ -6,7 +6,7 @@ use Rattle.paper.specs.declared.Reason.{Reason}
 use Rattle.paper.specs.declared.Reason.the-variants.{FormulaField, FormulaCode, FormulaTwice}
 use Rattle.paper.specs.Files.{bad, even}
 use Rattle.paper.specs.Refusals.{read-clauses}
-use Rattle.field.proofs.Laws.{found, wrong, found-stands}
+use Rattle.field.proofs.Laws.{found, found-next, wrong}
 use Rattle.clauses.specs.declared.ClauseCheck.{ClauseCheck}
 use Rattle.clauses.specs.Check.{clauseSaid}
 use Rattle.reading.proofs.Clause.{clause-ends, clause-wrong, clause-checkable, clause-bad, clause-taken}
@@ -35,19 +35,12 @@ check-clause-requires c κs =
     let e = c .before .before in
     let x = e .before .before in
     let a = x .before .before .before .before in (
-      clause-checkable _ _ _ (x .before .if1 .left) _ (found FormulaField 2 even _ _ _ (sym (e .e .given .1) ∙ x .expect .ensures FormulaField)) (a .pre .0),
+      clause-checkable _ _ _ (x .before .if1 .left) _ (found FormulaField 2 even _ _ _ _ (sym (e .e .given .1) ∙ x .expect .ensures FormulaField)) (a .pre .0),
       a .pre .1,
     )
 
 enum-told-2 : tie.Need-enum-told-2
 enum-told-2 c = search needs
-
-add-t19 : tie.Need-add-t19
-add-t19 c =
-    let e = c .before .before .before .before .before .before .before .before in
-    let x = e .before .before in
-    let s = found-stands FormulaField 2 even _ _ _ (sym (e .e .given .1) ∙ x .expect .ensures FormulaField) in
-    search needs
 
 enum-known-place : tie.Need-enum-known-place
 enum-known-place c = search needs
@@ -64,19 +57,20 @@ same-length c = search needs
 returns-3 : tie.Need-returns-3
 unfolding clauseSaid
 returns-3 c =
-    let o = c .before in
-    let k = o .before .before .before .before in
+    let k = c .before .before .before .before in
     let e = k .before .before .before in
     let x = e .before .before in (
       clause-taken
           _ _ _
           (x .before .if1 .left)
           _
-          (found FormulaField 2 even _ _ _ (sym (e .e .given .1) ∙ x .expect .ensures FormulaField))
+          (found FormulaField 2 even _ _ _ _ (sym (e .e .given .1) ∙ x .expect .ensures FormulaField))
           _ _
           (k .check-clause .ensures .0)
-          (o .enum-told2 .given .1)
-          refl,
+          (c .enum-told2 .given .1)
+          refl
+          _
+          (found-next _ _ _ (sym (e .e .given .1) ∙ x .expect .ensures FormulaField)),
       k .check-clause .ensures .1,
     )
 
@@ -91,7 +85,7 @@ refused k s reason p same q =
     _ _ _
     (x .before .if1 .left)
     _
-    (found FormulaField 2 even _ _ _ (sym (e .e .given .1) ∙ x .expect .ensures FormulaField))
+    (found FormulaField 2 even _ _ _ _ (sym (e .e .given .1) ∙ x .expect .ensures FormulaField))
     _ s
     (k .check-clause .ensures .0)
     same
@@ -138,7 +132,6 @@ read-clause-spec =
     returns-2
     check-clause-requires
     enum-told-2
-    add-t19
     enum-known-place
     enum-known-place-2
     enum-told-3

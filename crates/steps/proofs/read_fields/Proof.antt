@@ -1,19 +1,18 @@
 -- `read_fields` finds the fields that the paper's reading finds.
 use borrow.Author.Needs.{needs}
-use Prim.Native.Nat.{ℕ, _+_, _≤_, _<_}
-use mathlib.Core.Path.{_≡_, sym, _∙_}
+use Prim.Native.Nat.{ℕ}
+use mathlib.Core.Path.{_≡_, refl, sym, _∙_}
 use mathlib.Core.Bool.{true}
-use native.Mathlib.Omega.{arith}
 use borrow.Author.Tests.{not-true, not-false}
 use lib.Dec.{eqb}
-use lib.ListN.{length, getD}
+use lib.ListN.{getD}
 use Rattle.paper.specs.declared.Reason.the-variants.{ProofField}
 use Rattle.paper.specs.Files.{File, ok, past, field, even, fours}
 use Rattle.paper.specs.Refusals.{between, field-if}
 use Rattle.field.specs.Field.{expectedOf}
-use Rattle.field.proofs.Laws.{found, wrong}
+use Rattle.field.proofs.Laws.{found, found-next, wrong}
 use Rattle.reader.proofs.expect.Reads as expect-reads
-use Rattle.steps.proofs.Fields.{same-test, found-if, wrong-if, tag-refused, clause-refused, witness-refused, modulo-refused, delete-read, clause-read, clause-lies, witness-lies, modulo-lies, as-whole, as-bad}
+use Rattle.steps.proofs.Fields.{same-test, found-if, wrong-if, tag-refused, clause-refused, witness-refused, modulo-refused, delete-read, clause-read, as-whole, as-bad}
 use Rattle.steps.proofs.expect_if.Reads as expect-if-reads
 use Rattle.steps.proofs.within.Reads as within-reads
 use Rattle.steps.proofs.read_fields.Statement.{statement}
@@ -32,20 +31,20 @@ abbrev Witness-asked : Type 0
 Witness-asked = lts.After-expect-if (within-reads.Asked, within-reads.Learnt, expect-reads.Asked, expect-reads.Learnt, expect-if-reads.Asked, expect-if-reads.Learnt) reads.Pre reads.Post
 
 abbrev Witness-found : Type 0
-Witness-found = lts.After-w (within-reads.Asked, within-reads.Learnt, expect-reads.Asked, expect-reads.Learnt, expect-if-reads.Asked, expect-if-reads.Learnt) reads.Pre reads.Post
+Witness-found = lts.After-witness (within-reads.Asked, within-reads.Learnt, expect-reads.Asked, expect-reads.Learnt, expect-if-reads.Asked, expect-if-reads.Learnt) reads.Pre reads.Post
 
 abbrev Modulo-asked : Type 0
 Modulo-asked = lts.After-expect-if2 (within-reads.Asked, within-reads.Learnt, expect-reads.Asked, expect-reads.Learnt, expect-if-reads.Asked, expect-if-reads.Learnt) reads.Pre reads.Post
 
 abbrev Modulo-found : Type 0
-Modulo-found = lts.After-n (within-reads.Asked, within-reads.Learnt, expect-reads.Asked, expect-reads.Learnt, expect-if-reads.Asked, expect-if-reads.Learnt) reads.Pre reads.Post
+Modulo-found = lts.After-modulo (within-reads.Asked, within-reads.Learnt, expect-reads.Asked, expect-reads.Learnt, expect-if-reads.Asked, expect-if-reads.Learnt) reads.Pre reads.Post
 
 -- the way back from each to the one before it
 abbrev clause-of : Witness-asked → Clause-found
-clause-of d = d .before .before .before .before
+clause-of d = d .before .before .before
 
 abbrev witness-of : Modulo-asked → Witness-found
-witness-of d = d .before .before .before
+witness-of d = d .before .before
 
 abbrev tagged : Clause-found → Tagged
 tagged d = d .before .before .before
@@ -64,42 +63,34 @@ step-tag : (d : Tagged) → between 0x11 0x14 (tag d) ≡ true
 step-tag d = sym (d .before .within .ensures) ∙ not-false _ (d .if1 .left)
 
 clause : (d : Clause-found) → field ProofField (tag (tagged d)) even (proof (tagged d)) (at (tagged d)) ≡ ok (d .c .given .0 .0)
-clause d = found ProofField _ even _ _ _ (sym (d .c .given .1) ∙ d .before .before .expect .ensures ProofField)
+clause d = found ProofField _ even _ _ _ _ (sym (d .c .given .1) ∙ d .before .before .expect .ensures ProofField)
+
+-- the cursor that was handed back stands past the field
+past-clause : (d : Clause-found) → d .c .given .0 .1 .0 .at ≡ past (d .c .given .0 .0)
+past-clause d = found-next _ _ _ (sym (d .c .given .1) ∙ d .before .before .expect .ensures ProofField)
 
 witness-asked : (d : Witness-asked)
     → d .expect-if .result
     ≡ expectedOf (field-if (between 0x12 0x13 (tag (tagged (clause-of d)))) 0x21 fours (proof (tagged (clause-of d))) (past (clause-of d .c .given .0 .0)))
-unfolding past
-witness-asked d = same-test _ _ _ fours _ _ _ (d .before .within2 .ensures) (d .expect-if .ensures)
+witness-asked d = same-test _ _ _ fours _ _ _ _ (d .before .within2 .ensures) (past-clause (clause-of d)) (d .expect-if .ensures)
 
 witness : (d : Witness-found) → let e : Clause-found = clause-of (d .before .before) in
-    field-if (between 0x12 0x13 (tag (tagged e))) 0x21 fours (proof (tagged e)) (past (e .c .given .0 .0)) ≡ ok (d .w .given .0 .0)
-witness d = found-if _ _ fours _ _ _ (sym (d .w .given .1) ∙ witness-asked (d .before .before))
+    field-if (between 0x12 0x13 (tag (tagged e))) 0x21 fours (proof (tagged e)) (past (e .c .given .0 .0)) ≡ ok (d .witness .given .0 .0)
+witness d = found-if _ _ fours _ _ _ _ (sym (d .witness .given .1) ∙ witness-asked (d .before .before))
+
+past-witness : (d : Witness-found) → d .witness .given .0 .1 .0 .at ≡ past (d .witness .given .0 .0)
+past-witness d = found-next _ _ _ (sym (d .witness .given .1) ∙ witness-asked (d .before .before))
 
 modulo-asked : (d : Modulo-asked) → let w : Witness-found = witness-of d in let e : Clause-found = clause-of (w .before .before) in
-    d .expect-if2 .result ≡ expectedOf (field-if (eqb (tag (tagged e)) 0x13) 0x22 even (proof (tagged e)) (past (w .w .given .0 .0)))
-unfolding past
-modulo-asked d = d .expect-if2 .ensures
+    d .expect-if2 .result ≡ expectedOf (field-if (eqb (tag (tagged e)) 0x13) 0x22 even (proof (tagged e)) (past (w .witness .given .0 .0)))
+modulo-asked d = same-test _ _ _ even _ _ _ _ refl (past-witness (witness-of d)) (d .expect-if2 .ensures)
 
 modulo : (d : Modulo-found) → let w : Witness-found = witness-of (d .before .before) in let e : Clause-found = clause-of (w .before .before) in
-    field-if (eqb (tag (tagged e)) 0x13) 0x22 even (proof (tagged e)) (past (w .w .given .0 .0)) ≡ ok (d .n .given .0 .0)
-modulo d = found-if _ _ even _ _ _ (sym (d .n .given .1) ∙ modulo-asked (d .before .before))
+    field-if (eqb (tag (tagged e)) 0x13) 0x22 even (proof (tagged e)) (past (w .witness .given .0 .0)) ≡ ok (d .modulo .given .0 .0)
+modulo d = found-if _ _ even _ _ _ _ (sym (d .modulo .given .1) ∙ modulo-asked (d .before .before))
 
-fits : (d : Tagged) → length (proof d) < 18446744073709551616
-fits d = omega arith
-
-clause-past : (d : Clause-found) → d .c .given .0 .0 .start + d .c .given .0 .0 .size ≤ length (proof (tagged d))
-clause-past d = clause-lies (proof (tagged d)) (at (tagged d)) (step-tag (tagged d)) _ (clause d) .within
-
-witness-past : (d : Witness-found) → d .w .given .0 .0 .start + d .w .given .0 .0 .size ≤ length (proof (tagged (clause-of (d .before .before))))
-witness-past d = let e : Clause-found = clause-of (d .before .before) in witness-lies (proof (tagged e)) (at (tagged e)) (step-tag (tagged e)) _ (clause e) _ (witness d) .within
-
-modulo-past : (d : Modulo-found)
-    → d .n .given .0 .0 .start + d .n .given .0 .0 .size ≤ length (proof (tagged (clause-of (witness-of (d .before .before) .before .before))))
-modulo-past d =
-    let w : Witness-found = witness-of (d .before .before) in
-    let e : Clause-found = clause-of (w .before .before) in
-    modulo-lies (proof (tagged e)) (at (tagged e)) (step-tag (tagged e)) _ (clause e) _ (witness w) _ (modulo d) .within
+past-modulo : (d : Modulo-found) → d .modulo .given .0 .1 .0 .at ≡ past (d .modulo .given .0 .0)
+past-modulo d = found-next _ _ _ (sym (d .modulo .given .1) ∙ modulo-asked (d .before .before))
 
 shared-slice-read-tag : tie.Need-shared-slice-read-tag
 shared-slice-read-tag c = search needs
@@ -110,7 +101,7 @@ within-requires c κs = search needs
 returns : tie.Need-returns
 returns c =
     let d = c .before in
-    as-bad _ _ _ (tag-refused _ _ (sym (d .within .ensures) ∙ not-true _ (c .if1 .taken)))
+    as-bad _ _ _ _ refl (tag-refused _ _ (sym (d .within .ensures) ∙ not-true _ (c .if1 .taken)))
 
 expect-requires : tie.Need-expect-requires
 expect-requires c κs = search needs
@@ -125,10 +116,7 @@ returns-2 : tie.Need-returns-2
 returns-2 c =
     let d = c .before .before in
     let t = step-tag (d .before) in
-    as-bad _ _ _ (clause-refused _ _ t (wrong ProofField _ even _ _ (sym (c .enum-told .given .1) ∙ d .expect .ensures ProofField)))
-
-add-past-c : tie.Need-add-past-c
-add-past-c c = let h = clause-past (c .before .before) in omega arith
+    as-bad _ _ _ _ refl (clause-refused _ _ t (wrong ProofField _ even _ _ (sym (c .enum-told .given .1) ∙ d .expect .ensures ProofField)))
 
 within-requires-2 : tie.Need-within-requires-2
 within-requires-2 c κs = search needs
@@ -136,61 +124,47 @@ within-requires-2 c κs = search needs
 expect-if-requires : tie.Need-expect-if-requires
 expect-if-requires c κs = search needs
 
-enum-known-w : tie.Need-enum-known-w
-enum-known-w c = search needs
+enum-known-witness : tie.Need-enum-known-witness
+enum-known-witness c = search needs
 
 enum-told-2 : tie.Need-enum-told-2
 enum-told-2 c = search needs
 
 returns-3 : tie.Need-returns-3
-unfolding past
 returns-3 c =
     let d : Witness-asked = c .before .before in
     let e : Clause-found = clause-of d in
-    as-bad _ _ _ (witness-refused _ _ (step-tag (tagged e)) _ (clause e) (wrong-if _ _ fours _ _ (sym (c .enum-told2 .given .1) ∙ witness-asked d)))
-
-add-past-w : tie.Need-add-past-w
-add-past-w c = let h = witness-past (c .before .before) in omega arith
+    as-bad _ _ _ _ (past-clause e) (witness-refused _ _ (step-tag (tagged e)) _ (clause e) (wrong-if _ _ fours _ _ (sym (c .enum-told2 .given .1) ∙ witness-asked d)))
 
 expect-if-requires-2 : tie.Need-expect-if-requires-2
 expect-if-requires-2 c κs = search needs
 
-enum-known-n : tie.Need-enum-known-n
-enum-known-n c = search needs
+enum-known-modulo : tie.Need-enum-known-modulo
+enum-known-modulo c = search needs
 
 enum-told-3 : tie.Need-enum-told-3
 enum-told-3 c = search needs
 
 returns-4 : tie.Need-returns-4
-unfolding past
 returns-4 c =
     let d : Modulo-asked = c .before .before in
     let w : Witness-found = witness-of d in
     let e : Clause-found = clause-of (w .before .before) in
-    as-bad _ _ _ (modulo-refused _ _ (step-tag (tagged e)) _ (clause e) _ (witness w) (wrong-if _ _ even _ _ (sym (c .enum-told3 .given .1) ∙ modulo-asked d)))
+    as-bad _ _ _ _ (past-witness w) (modulo-refused _ _ (step-tag (tagged e)) _ (clause e) _ (witness w) (wrong-if _ _ even _ _ (sym (c .enum-told3 .given .1) ∙ modulo-asked d)))
 
 returns-5 : tie.Need-returns-5
-unfolding past
 returns-5 c =
     let d : Modulo-found = c .before .before in
     let w : Witness-found = witness-of (d .before .before) in
     let e : Clause-found = clause-of (w .before .before) in
-    as-whole _ _ _ (delete-read _ _ (step-tag (tagged e)) _ (clause e) _ (witness w) _ (modulo d) (c .if2 .taken))
-
-add-t18 : tie.Need-add-t18
-add-t18 c =
-    let d : Modulo-found = c .before .before .before in
-    let h = modulo-past d in
-    let f = fits (tagged (clause-of (witness-of (d .before .before) .before .before))) in
-    omega arith
+    as-whole _ _ _ _ _ _ _ (past-clause e) (delete-read _ _ (step-tag (tagged e)) _ (clause e) _ (witness w) _ (modulo d) (c .if2 .taken))
 
 returns-6 : tie.Need-returns-6
-unfolding past
 returns-6 c =
-    let d : Modulo-found = c .before .before .before in
+    let d : Modulo-found = c .before .before in
     let w : Witness-found = witness-of (d .before .before) in
     let e : Clause-found = clause-of (w .before .before) in
-    as-whole _ _ _ (clause-read _ _ (step-tag (tagged e)) _ (clause e) _ (witness w) _ (modulo d) (c .before .if2 .left))
+    as-whole _ _ _ _ _ _ _ (past-modulo d) (clause-read _ _ (step-tag (tagged e)) _ (clause e) _ (witness w) _ (modulo d) (c .if2 .left))
 
 pub read-fields-spec : {M : Type 1} → statement M
 read-fields-spec =
@@ -203,17 +177,14 @@ read-fields-spec =
     enum-known-c
     enum-told
     returns-2
-    add-past-c
     within-requires-2
     expect-if-requires
-    enum-known-w
+    enum-known-witness
     enum-told-2
     returns-3
-    add-past-w
     expect-if-requires-2
-    enum-known-n
+    enum-known-modulo
     enum-told-3
     returns-4
     returns-5
-    add-t18
     returns-6)
