@@ -3,7 +3,7 @@ use Prim.Native.Nat.{ℕ, suc}
 use mathlib.Core.Path.{_≡_}
 use mathlib.Core.Bool.{Bool, true, false}
 use mathlib.Core.List.{List, [], _∷_}
-use lib.Dec.{eqb}
+use lib.Dec.{leb}
 use Rattle.paper.specs.Atoms.{Formula, Live}
 use Rattle.paper.specs.Files.{File, codes}
 use Rattle.lookup.specs.Clause.{clauseBytes}
@@ -12,9 +12,9 @@ use Rattle.lookup.specs.Clause.{clauseBytes}
 unfoldable pub live-from : File → File → ℕ → List ℕ → Formula
 live-from f p k [] = []
 live-from f p k (w ∷ ws) =
-    elim (eqb w 0) [
-      | true ↦ live-from f p (suc k) ws
-      | false ↦ (k, codes (clauseBytes f p w)) ∷ live-from f p (suc k) ws
+    elim (leb 1048576 w) [
+      | true ↦ (k, codes (clauseBytes f p w)) ∷ live-from f p (suc k) ws
+      | false ↦ live-from f p (suc k) ws
     ]
 
 unfoldable pub live : File → File → List ℕ → Formula

@@ -25,7 +25,9 @@ shared-slice-read-if1 : tie.Need-shared-slice-read-if1 Inv-loop μ-loop
 shared-slice-read-if1 c = search needs
 
 clause-at-requires : tie.Need-clause-at-requires Inv-loop μ-loop
-clause-at-requires c κs = search needs
+clause-at-requires c κs =
+    let l = c .before .before .before in
+    (c .before .before .loop-test .taken, (c .if1 .taken, l .before .before .before .before .pre .stands _ (c .if1 .taken)))
 
 returns : tie.Need-returns Inv-loop μ-loop
 returns c =
