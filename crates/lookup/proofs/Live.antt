@@ -135,29 +135,32 @@ unfolding is-in
 is-in-none m = refl
 
 -- the clauses named in a list are removed one after the other
-pub without-more : (n : ℕ) (ns : List ℕ) (F : Formula) → without ns (without (n ∷ []) F) ≡ without (n ∷ ns) F
+pub without-more : (n : ℕ) (ns : List ℕ) (F : Formula) → without (n ∷ []) (without ns F) ≡ without (n ∷ ns) F
 unfolding without
 without-more n ns [] = refl
 without-more n ns (D ∷ F) = go (without-more n ns F) (eqb (D .0) n) refl (is-in (D .0) ns) refl
   where
-    go : without ns (without (n ∷ []) F) ≡ without (n ∷ ns) F → (b : Bool) → eqb (D .0) n ≡ b → (c : Bool) → is-in (D .0) ns ≡ c
-        → without ns (without (n ∷ []) (D ∷ F)) ≡ without (n ∷ ns) (D ∷ F)
-    go below true e c q =
+    go : without (n ∷ []) (without ns F) ≡ without (n ∷ ns) F → (b : Bool) → eqb (D .0) n ≡ b → (c : Bool) → is-in (D .0) ns ≡ c
+        → without (n ∷ []) (without ns (D ∷ F)) ≡ without (n ∷ ns) (D ∷ F)
+    go below true e true q =
         let same : D .0 ≡ n = eqb-yes (D .0) n e in
-        rw (without-drop (n ∷ []) D F (is-in-same (D .0) n [] same), without-drop (n ∷ ns) D F (is-in-same (D .0) n ns same)) below
-    go below false e true q =
-        let other : D .0 ≢ n = eqb-no (D .0) n e in
+        rw (without-drop ns D F q, without-drop (n ∷ ns) D F (is-in-same (D .0) n ns same)) below
+    go below true e false q =
+        let same : D .0 ≡ n = eqb-yes (D .0) n e in
         rw (
-          without-keep (n ∷ []) D F (is-in-other (D .0) n [] other ∙ is-in-none (D .0)),
-          without-drop ns D (without (n ∷ []) F) q,
-          without-drop (n ∷ ns) D F (is-in-other (D .0) n ns other ∙ q),
+          without-keep ns D F q,
+          without-drop (n ∷ []) D (without ns F) (is-in-same (D .0) n [] same),
+          without-drop (n ∷ ns) D F (is-in-same (D .0) n ns same),
         )
         below
+    go below false e true q =
+        let other : D .0 ≢ n = eqb-no (D .0) n e in
+        rw (without-drop ns D F q, without-drop (n ∷ ns) D F (is-in-other (D .0) n ns other ∙ q)) below
     go below false e false q =
         let other : D .0 ≢ n = eqb-no (D .0) n e in
         rw (
-          without-keep (n ∷ []) D F (is-in-other (D .0) n [] other ∙ is-in-none (D .0)),
-          without-keep ns D (without (n ∷ []) F) q,
+          without-keep ns D F q,
+          without-keep (n ∷ []) D (without ns F) (is-in-other (D .0) n [] other ∙ is-in-none (D .0)),
           without-keep (n ∷ ns) D F (is-in-other (D .0) n ns other ∙ q),
         )
         (ap (λ (G : Formula). D ∷ G) below)

@@ -13,7 +13,7 @@ ghost use Rattle.paper.specs.Files.{File, payload, codes, mappings};
 ghost use Rattle.paper.specs.Refusals.{between, field-if, read-fields, check-mappings, check-numbers};
 ghost use Rattle.field.specs.Field.{allowedBy, expectedOf};
 ghost use Rattle.lookup.specs.Live.{live};
-ghost use Rattle.steps.specs.Steps.{fieldsOf, checkedBy, Removed};
+ghost use Rattle.steps.specs.Steps.{fieldsOf, checkedBy, removed, Below};
 
 // The fields of a step; or the place where one is missing, has the wrong tag, is cut short or has a length that is not allowed.
 pub enum FieldsRead {
@@ -126,7 +126,7 @@ pub fn check_numbers(proof: &[u8], e: Extent, words: &[u32]) -> Checked
         if words.len() <= n {
             return Checked::At(i);
         }
-        if words[n] == 0 {
+        if words[n] < 1048576 {
             return Checked::At(i);
         }
         last = n;
@@ -135,18 +135,15 @@ pub fn check_numbers(proof: &[u8], e: Extent, words: &[u32]) -> Checked
     Checked::Fine
 }
 
-// Clears the listed numbers: their clauses are no longer live.
+// Clears the listed numbers: their clauses are no longer live. The last goes first, so that each word is written once.
 pub fn remove_numbers(proof: &[u8], e: Extent, words: &mut [u32])
-    requires { ⌜ (e .start + e .size ≤ length (now proof)) × (e .size % 2 ≡ 0) ⌝ }
-    ensures { λ _. ⌜ Removed (now (proof .entry)) (codes (payload (now (proof .entry)) e)) (now (words .entry)) (now (words .exit)) ⌝ }
+    requires { ⌜ (e .start + e .size ≤ length (now proof)) × ((e .size % 2 ≡ 0) × ((length (now words) ≤ 65536) × Below (length (now words)) (codes (payload (now proof) e)))) ⌝ }
+    ensures { λ _. ⌜ now (words .exit) ≡ removed (now (words .entry)) (codes (payload (now (proof .entry)) e)) ⌝ }
 {
-    let end = e.start + e.size;
-    let mut at = e.start;
-    while at < end {
-        let n = field::pair_at(proof, at);
-        if n < words.len() {
-            lookup::remove(words, n);
-        }
-        at += 2;
+    let start = e.start;
+    let mut at = start + e.size;
+    while start < at {
+        at -= 2;
+        lookup::remove(words, field::pair_at(proof, at));
     }
 }
