@@ -13,6 +13,7 @@ use Rattle.paper.specs.Atoms.{Clause, Formula}
 use Rattle.paper.specs.Files.{File, Read, ok, bad, _>>=_, _>>_, need, payload, past, field, even, codes}
 use Rattle.paper.specs.Refusals.{check-clause, read-clauses}
 use Rattle.paper.proofs.Lists.{eqb-yes}
+use Rattle.field.specs.Field.{extentAt}
 use Rattle.field.proofs.Laws.{stands}
 use Rattle.clauses.specs.declared.ClauseCheck.{ClauseCheck}
 use Rattle.clauses.specs.Check.{Checkable, clauseSaid}
@@ -74,6 +75,10 @@ module _ (f : File) (vars at : ℕ) where
         unfolding read-clauses _>>_ _>>=_ need
         clause-bad reason p k m n = rw (lt-ltb at (length f) h, q, checked ∙ k)
 
+        place : past e ≡ past (extentAt f at)
+        unfolding past extentAt
+        place = let s = stands FormulaField 0x02 even f at e q in rw (s .start, s .size)
+
         -- the next clause is read where the cursor past this one stands
         pub clause-taken : clauseSaid FormulaCode FormulaTwice at s ≡ ok tt → (next : ℕ) → next ≡ past e → ClauseTaken f vars at next
         unfolding read-clauses _>>_ _>>=_ need
@@ -81,6 +86,7 @@ module _ (f : File) (vars at : ℕ) where
           extent = e;
           starts = h;
           stands = q;
+          after = g ∙ place;
           read = λ m n. rw g (rw (lt-ltb at (length f) h, q, checked ∙ k) (prepend-one n (codes (payload f e)) (read-clauses f vars m (suc n) (past e))));
         }
 

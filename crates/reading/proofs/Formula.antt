@@ -1,6 +1,6 @@
 -- The whole formula, from its HEAD and its clauses; and the words zeroed again where it is refused.
 -- Assumes nothing.
-use Prim.Native.Nat.{ℕ, _+_, _≤_, _<_}
+use Prim.Native.Nat.{ℕ, _+_, _-_, _≤_, _<_}
 use mathlib.Core.Path.{_≡_, sym, ap, subst, _∙_}
 use mathlib.Core.List.{List, []}
 use native.Mathlib.Omega.{arith}
@@ -21,9 +21,9 @@ use Rattle.reading.specs.Reading.{ended, HeadTaken, HeadSaid, ClausesTak
 pub head-said-as : (f : File) (r s : HeadRead) → HeadSaid f r → r ≡ s → HeadSaid f s
 head-said-as f r s k e = subst (λ (x : HeadRead). HeadSaid f x) e k
 
-pub clauses-said-as : (f : File) (vars m first : ℕ) (ws : List ℕ) (r s : ClauseRead) → ClausesSaid f vars m first ws r → r ≡ s
-    → ClausesSaid f vars m first ws s
-clauses-said-as f vars m first ws r s k e = subst (λ (x : ClauseRead). ClausesSaid f vars m first ws x) e k
+pub clauses-said-as : (f : File) (vars m first : ℕ) (ws₀ ws : List ℕ) (r s : ClauseRead) → ClausesSaid f vars m first ws₀ ws r → r ≡ s
+    → ClausesSaid f vars m first ws₀ ws s
+clauses-said-as f vars m first ws₀ ws r s k e = subst (λ (x : ClauseRead). ClausesSaid f vars m first ws₀ ws x) e k
 
 -- words that were zero, zeroed again
 pub zeroed : (ws zs : List ℕ) (n : ℕ) → Zero ws → n ≡ length ws → zs ≡ replicate n 0 → zs ≡ ws
@@ -34,17 +34,18 @@ module _ (f : File) (vars m first : ℕ) (h : HeadTaken f vars m first) where
   unfolding ended _>>=_
   clauses-refused reason place q = h .read ∙ ap (ended f vars m) q
 
-  module _ (at : ℕ) (ws : List ℕ) (c : ClausesTaken f vars m first at ws) where
+  module _ (at : ℕ) (ws₀ ws : List ℕ) (c : ClausesTaken f vars m first at ws₀ ws) where
     -- "bytes follow clause m"
     pub bytes-follow : at < length f → read-formula f ≡ bad FormulaEnd at
     unfolding ended _>>=_ _>>_ need
     bytes-follow k = h .read ∙ ap (ended f vars m) (c .read []) ∙ rw (leb-beyond (length f) at k)
 
-    pub formula-taken : length f ≤ at → (ws₀ : List ℕ) → length ws ≡ length ws₀ → FormulaTaken f vars (m + 1) ws₀ ws
+    pub formula-taken : length f ≤ at → length ws ≡ length ws₀ → FormulaTaken f vars (m + 1) ws₀ ws
     unfolding ended _>>=_ _>>_ need
-    formula-taken k ws₀ l = record {
+    formula-taken k l = record {
       read = λ p. h .read ∙ ap (ended f vars m) (c .read p) ∙ rw (leb-within (length f) at k, add-one m);
-      above = c .above;
+      words = let e : m + 1 - 1 ≡ m = omega arith in rw (e, ← h .place) (c .words);
+      table = c .table;
       long = l;
       variables = h .variables;
       first = omega arith;

@@ -1,7 +1,7 @@
 -- HEAD as the code reads it, against the paper's reading of the formula.
 -- Assumes nothing.
-use Prim.Native.Nat.{ℕ, _≤_, _<_}
-use mathlib.Core.Path.{_≡_}
+use Prim.Native.Nat.{ℕ, _+_, _≤_, _<_}
+use mathlib.Core.Path.{_≡_, refl}
 use native.Mathlib.Omega.{arith}
 use lib.ListN.{length}
 use Rattle.paper.specs.declared.Reason.the-variants.{FormulaField, OverLimit}
@@ -40,9 +40,10 @@ module _ (f : File) where
 
       -- the clauses follow where the cursor past HEAD stands
       pub head-taken : m ≤ 16383 → (first : ℕ) → first ≡ past e → HeadTaken f v m first
-      unfolding read-formula ended _>>=_ _>>_ need
+      unfolding read-formula ended past _>>=_ _>>_ need
       head-taken k first g = record {
         variables = h;
         clauses = k;
+        place = let s = stands FormulaField 0x01 four f 0 e q in let n = head-size in let w : past e ≡ e .start + e .size = refl in omega arith;
         read = rw g (rw (q, leb-within (two f 3) 4095 (omega arith), leb-within (two f 5) 16383 (omega arith), ← a, ← b));
       }

@@ -1,15 +1,17 @@
 -- What the reading of the formula says, and the clause table that it leaves.
-use Prim.Native.Nat.{ℕ, suc, _+_, _≤_, _<_}
+use Prim.Native.Nat.{ℕ, zero, suc, _+_, _-_, _≤_, _<_}
 use mathlib.Core.Path.{_≡_}
 use mathlib.Core.List.{List, [], _∷_, _++_}
 use lib.Dec.{leb}
-use lib.ListN.{length, getD}
+use lib.ListN.{length, set}
 use Rattle.paper.specs.declared.Reason.{Reason}
 use Rattle.paper.specs.declared.Reason.the-variants.{FormulaField, FormulaEnd}
 use Rattle.paper.specs.declared.Extent.{Extent}
 use Rattle.paper.specs.Atoms.{Formula}
-use Rattle.paper.specs.Files.{File, Read, ok, bad, _>>=_, _>>_, need, payload, field, even, codes}
+use Rattle.paper.specs.Files.{File, Read, ok, bad, _>>=_, _>>_, need, payload, past, field, even, codes}
 use Rattle.paper.specs.Refusals.{read-clauses, read-formula}
+use Rattle.field.specs.Field.{extentAt}
+use Rattle.lookup.specs.Clause.{formulaWord, ClauseTable}
 use Rattle.lookup.specs.Live.{live}
 use Rattle.reading.specs.declared.HeadRead.{HeadRead}
 use Rattle.reading.specs.declared.HeadRead.the-variants.{Limits, Bad as BadHead}
@@ -29,6 +31,7 @@ ended f vars m x = do
 pub record HeadTaken (f : File) (vars m first : ℕ) : Type 0 where
   pub variables : vars ≤ 4095
   pub clauses : m ≤ 16383
+  pub place : first ≡ 7
   pub read : read-formula f ≡ ended f vars m (read-clauses f vars m 1 first)
 
 abbrev pub HeadSaid : File → HeadRead → Type 0
@@ -45,25 +48,33 @@ pub record ClauseTaken (f : File) (vars at next : ℕ) : Type 0 where
   pub extent : Extent
   pub starts : at < length f
   pub stands : field FormulaField 0x02 even f at ≡ ok extent
+  pub after : next ≡ past (extentAt f at)
   pub read : (m n : ℕ) → read-clauses f vars (suc m) n at ≡ prepend ((n, codes (payload f extent)) ∷ []) (read-clauses f vars m (suc n) next)
 
 abbrev pub ClauseSaid : File → ℕ → ℕ → ClauseRead → Type 0
 ClauseSaid f vars at (Next next) = ClauseTaken f vars at next
 ClauseSaid f vars at (BadClause reason place) = (m n : ℕ) → read-clauses f vars (suc m) n at ≡ bad reason place
 
--- m clauses were read, from the place first up to the place at: they are the live ones of the words
-pub record ClausesTaken (f : File) (vars m first at : ℕ) (ws : List ℕ) : Type 0 where
+-- the words with the m fields that stand one after the other from a place on entered, under the numbers from n on
+unfoldable pub entered : File → ℕ → ℕ → ℕ → List ℕ → List ℕ
+entered f zero n at ws = ws
+entered f (suc m) n at ws = entered f m (suc n) (past (extentAt f at)) (set ws n (formulaWord at))
+
+-- m clauses were read, from the place first up to the place at: they are entered, and are the live ones, whatever the proof is
+pub record ClausesTaken (f : File) (vars m first at : ℕ) (ws₀ ws : List ℕ) : Type 0 where
   pub read : (p : File) → read-clauses f vars m 1 first ≡ ok (live f p ws, at)
-  pub above : (k : ℕ) → m + 1 ≤ k → getD ws k 0 ≡ 0
+  pub words : ws ≡ entered f m 1 first ws₀
+  pub table : (p : File) → ClauseTable f p (m + 1) ws
 
-abbrev pub ClausesSaid : File → ℕ → ℕ → ℕ → List ℕ → ClauseRead → Type 0
-ClausesSaid f vars m first ws (Next at) = ClausesTaken f vars m first at ws
-ClausesSaid f vars m first ws (BadClause reason place) = read-clauses f vars m 1 first ≡ bad reason place
+abbrev pub ClausesSaid : File → ℕ → ℕ → ℕ → List ℕ → List ℕ → ClauseRead → Type 0
+ClausesSaid f vars m first ws₀ ws (Next at) = ClausesTaken f vars m first at ws₀ ws
+ClausesSaid f vars m first ws₀ ws (BadClause reason place) = read-clauses f vars m 1 first ≡ bad reason place
 
--- A formula was read: its clauses are the live ones of the words ws, whatever the proof is, and no word from next on is entered.
+-- A formula was read: its clauses, which follow HEAD's seven bytes, are entered, and are the live ones, whatever the proof is.
 pub record FormulaTaken (f : File) (vars next : ℕ) (ws₀ ws : List ℕ) : Type 0 where
   pub read : (p : File) → read-formula f ≡ ok (vars, live f p ws, next)
-  pub above : (k : ℕ) → next ≤ k → getD ws k 0 ≡ 0
+  pub words : ws ≡ entered f (next - 1) 1 7 ws₀
+  pub table : (p : File) → ClauseTable f p next ws
   pub long : length ws ≡ length ws₀
   pub variables : vars ≤ 4095
   pub first : 1 ≤ next

@@ -106,7 +106,7 @@ fn enter_clauses(
     t: &mut [u8],
 ) -> ClauseRead
     requires { ⌜ (length (now formula) ≤ 1048576) × ((vars ≤ 4095) × ((m < length (now words)) × (Zero (now words) × ((8192 ≤ length (now t)) × Zero (now t))))) ⌝ }
-    ensures said { λ r. ⌜ ClausesSaid (now (formula .entry)) vars m first (now (words .exit)) r ⌝ }
+    ensures said { λ r. ⌜ ClausesSaid (now (formula .entry)) vars m first (now (words .entry)) (now (words .exit)) r ⌝ }
     ensures table { λ _. ⌜ now (t .exit) ≡ now (t .entry) ⌝ }
 {
     let mut at: usize = first;

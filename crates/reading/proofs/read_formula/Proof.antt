@@ -52,9 +52,9 @@ returns c =
     let r = v .before .before in
     let a = r .before .before .before .before in
     let h = head-said-as _ _ _ (r .read-head .ensures) (v .vars .given .1) in
-    let q = clauses-said-as _ _ _ _ _ _ _ (k .enter-clauses .ensures .0) (n .at .given .1) in (
+    let q = clauses-said-as _ _ _ _ _ _ _ _ (k .enter-clauses .ensures .0) (n .at .given .1) in (
       record {
-        read = bytes-follow _ _ _ _ h _ _ q (i .if1 .taken);
+        read = bytes-follow _ _ _ _ h _ _ _ q (i .if1 .taken);
         words = zeroed _ _ _ (a .pre .1 .1 .0) (k .enter-clauses .kept .1 .1 .1 .1 .0) (z .zero-words2 .ensures);
       },
       k .enter-clauses .ensures .1,
@@ -89,7 +89,7 @@ returns-3 c =
     let r = v .before .before in
     let a = r .before .before .before .before in
     let h = head-said-as _ _ _ (r .read-head .ensures) (v .vars .given .1) in
-    let q = clauses-said-as _ _ _ _ _ _ _ (k .enter-clauses .ensures .0) (n .reason2 .given .1) in (
+    let q = clauses-said-as _ _ _ _ _ _ _ _ (k .enter-clauses .ensures .0) (n .reason2 .given .1) in (
       record {
         read = clauses-refused _ _ _ _ h _ _ q;
         words = zeroed _ _ _ (a .pre .1 .1 .0) (k .enter-clauses .kept .1 .1 .1 .1 .0) (z .zero-words .ensures);
@@ -110,8 +110,8 @@ returns-4 c =
     let v = k .before .before .before .before in
     let r = v .before .before in
     let h = head-said-as _ _ _ (r .read-head .ensures) (v .vars .given .1) in
-    let q = clauses-said-as _ _ _ _ _ _ _ (k .enter-clauses .ensures .0) (n .at .given .1) in
-    (formula-taken _ _ _ _ h _ _ q (c .if1 .left) _ (k .enter-clauses .kept .1 .1 .1 .1 .0), k .enter-clauses .ensures .1)
+    let q = clauses-said-as _ _ _ _ _ _ _ _ (k .enter-clauses .ensures .0) (n .at .given .1) in
+    (formula-taken _ _ _ _ h _ _ _ q (c .if1 .left) (k .enter-clauses .kept .1 .1 .1 .1 .0), k .enter-clauses .ensures .1)
 
 pub read-formula-spec : {M : Type 1} → statement M
 read-formula-spec =
