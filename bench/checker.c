@@ -1,6 +1,5 @@
 /* The proved checker's algorithm in C, to time the two against each other: the same work memory, sweeps and order of tests, and the
-   same answers. What the proved code tests again at each look (that a clause in the table lies in its file) is tested here once, when
-   the clause is entered. */
+   same answers. */
 #include "checker.h"
 #include <string.h>
 
@@ -12,7 +11,7 @@ struct file { const uint8_t *bytes; size_t length; };
 struct extent { size_t start, size; };
 struct fault { unsigned reason; size_t place; };
 
-/* All that a call works on. A word is 0 or the file and offset of a clause's tag; a variable has two bytes: value (0 unset, 1 true,
+/* All that a call works on. A word is the file and offset of a clause's tag, or tells where to go on; a variable has two bytes: value (0 unset, 1 true,
    2 false) in two bits, 4 if it is mapped, and the code of its image in the other thirteen. */
 struct work {
     struct file formula, proof;
@@ -54,6 +53,20 @@ static const uint8_t *clause_at(const struct work *w, size_t n, size_t *size) {
     const uint8_t *tag = (word & IN_FORMULA ? w->formula.bytes : w->proof.bytes) + (word & (IN_FORMULA - 1));
     *size = pair(tag + 1);
     return tag + 3;
+}
+
+static int is_live(const struct work *w, size_t n) { return w->words[n] >= IN_FORMULA; }
+
+/* The first number from n on that may be live. */
+static size_t onward(const struct work *w, size_t n) {
+    return n < w->next && !is_live(w, n) && w->words[n] > n ? w->words[n] : n;
+}
+
+/* The word tells where to go on, and so do those of the numbers right below it that are not live. */
+static void remove_clause(struct work *w, size_t n) {
+    uint32_t later = (uint32_t)onward(w, n + 1);
+    w->words[n] = later;
+    while (n > 0 && !is_live(w, n - 1)) w->words[--n] = later;
 }
 
 /* What is wrong with a clause's codes: 1 (one out of range) or 2 (a variable twice), with its place; 3 (too many); 0 if nothing is. */
@@ -103,11 +116,14 @@ static struct fault read_formula(struct work *w) {
 /* One sweep over the live clauses: 1 at a clash; *set counts the literals that it sets. */
 static int sweep(const struct work *w, size_t *set) {
     uint8_t *t = w->t;
-    for (size_t k = 0; k < w->next; k++) {
+    for (size_t k = 0; k < w->next;) {
         size_t size;
         unsigned unset = 0;
         const uint8_t *c, *end;
-        if (w->words[k] == 0) continue;
+        if (!is_live(w, k)) {
+            k = onward(w, k + 1);
+            continue;
+        }
         c = clause_at(w, k, &size);
         for (end = c + size; c < end; c += 2) {
             unsigned code = pair(c);
@@ -121,7 +137,8 @@ static int sweep(const struct work *w, size_t *set) {
         if (unset == 0) return 1;
         make_true(t, unset);
         ++*set;
-    next_clause:;
+    next_clause:
+        k++;
     }
     return 0;
 }
@@ -180,7 +197,7 @@ static size_t lowest_failing(const struct work *w, struct extent c, struct exten
     for (size_t n = 0; n < w->next; n++) {
         if (at < end && pair(w->proof.bytes + at) == n) {
             at += 2;
-        } else if (w->words[n] != 0) {
+        } else if (is_live(w, n)) {
             const uint8_t *d = clause_at(w, n, &size);
             if (!passes(w, c, d, size)) return n;
         }
@@ -223,7 +240,7 @@ static struct fault check_numbers(const struct work *w, struct extent e) {
     unsigned last = 0;
     for (size_t i = e.start; i < e.start + e.size; i += 2) {
         unsigned n = pair(w->proof.bytes + i);
-        if (n <= last || n >= WORDS || w->words[n] == 0) return fault(11, i);
+        if (n <= last || n >= WORDS || !is_live(w, n)) return fault(11, i);
         last = n;
     }
     return fault(0, 0);
@@ -276,7 +293,7 @@ static struct fault take_step(struct work *w, size_t *at) {
         unload_witness(s, witness.start, witness.start + witness.size, w->t);
         if (f.reason) return f;
     }
-    for (size_t i = numbers.start; i < numbers.start + numbers.size; i += 2) w->words[pair(s + i)] = 0;
+    for (size_t i = numbers.start + numbers.size; i > numbers.start; i -= 2) remove_clause(w, pair(s + i - 2));
     if (tag != DELETE) w->words[w->next++] = (uint32_t)(IN_PROOF + *at);
     *at = end;
     return f;
@@ -284,8 +301,8 @@ static struct fault take_step(struct work *w, size_t *at) {
 
 static int has_empty(const struct work *w) {
     size_t size;
-    for (size_t n = 0; n < WORDS; n++)
-        if (w->words[n] != 0 && (clause_at(w, n, &size), size == 0)) return 1;
+    for (size_t n = 0; n < w->next; n++)
+        if (is_live(w, n) && (clause_at(w, n, &size), size == 0)) return 1;
     return 0;
 }
 

@@ -45,7 +45,7 @@ module _ (f p : File) (words : List ℕ) (hf : length f ≤ 1048576) (hp : lengt
           first = whole .first;
           last = whole .last;
           words-long = whole .long ∙ c .words-long;
-          unused = whole .above;
+          clauses = whole .table p;
           kept = x .kept;
           table-long = ap length same ∙ c .table-long;
           table-zero = λ i. ap (λ (y : List ℕ). getD y i 0) same ∙ c .table-zero i;

@@ -1,12 +1,13 @@
 -- The loop over a proof's steps: what holds before each, and how each way out gives the answer.
 -- Assumes nothing.
-use Prim.Native.Nat.{ℕ, _+_, _≤_, _<_}
+use Prim.Native.Nat.{ℕ, _+_, _-_, _≤_, _<_}
 use mathlib.Core.Path.{_≡_, ap, _∙_, subst}
 use mathlib.Core.Bool.{Bool, true, false}
 use mathlib.Core.List.{List}
 use native.Mathlib.Omega.{arith}
 use native.Mathlib.Numerals.{add-one}
-use lib.ListN.{length, getD}
+use lib.ListN.{length, getD, take}
+use lib.Seq.{length-take-le}
 use Rattle.paper.specs.declared.Reason.{Reason}
 use Rattle.paper.specs.declared.Verdict.{Verdict}
 use Rattle.paper.specs.declared.Verdict.the-variants.{Refuted, Held}
@@ -17,7 +18,10 @@ use Rattle.paper.specs.Answers.{refused, Steps, refuted, held}
 use Rattle.paper.specs.Answers as answers
 use Rattle.paper.proofs.Reading.{Then, Step-read, read-step-seen}
 use Rattle.paper.proofs.Judging.{judged-kept}
+use Rattle.lookup.specs.Clause.{ClauseTable}
 use Rattle.lookup.specs.Live.{live, EmptyLive}
+use Rattle.lookup.proofs.Live.{live-used}
+use Rattle.lookup.proofs.Table.{table-used}
 use Rattle.judging.specs.declared.StepAnswer.the-variants.{Taken, Stopped}
 use Rattle.judging.specs.Step.{Ready, Done, StepIs}
 use Rattle.judging.specs.Step as step
@@ -43,7 +47,7 @@ module _ {f p : File} {vars first : ℕ} {F : Formula} {words t : List ℕ} {at 
         first = g .now .first;
         last = g .now .last;
         words-long = g .now .words-long;
-        unused = g .now .unused;
+        clauses = g .now .clauses;
         kept = g .now .kept;
         table-long = g .now .table-long;
         table-zero = g .now .table-zero;
@@ -74,9 +78,9 @@ module _ {f p : File} {vars first : ℕ} {F : Formula} {words t : List ℕ} {at 
               proof-short = g .now .proof-short;
               variables = g .now .variables;
               first = k .0;
-              last = d .after .1;
-              words-long = d .after .0 ∙ g .now .words-long;
-              unused = d .after .2;
+              last = d .after .last;
+              words-long = d .after .long ∙ g .now .words-long;
+              clauses = d .after .clauses;
               kept = k .1;
               table-long = ap length (d .table) ∙ g .now .table-long;
               table-zero = λ i. ap (λ (x : List ℕ). getD x i 0) (d .table) ∙ g .now .table-zero i;
@@ -94,8 +98,17 @@ module _ {f p : File} {vars first : ℕ} {F : Formula} {words t : List ℕ} {at 
       go (step.unread e) = rw add-one (g .leads _ (answers.unread h e))
       go (step.refused e j) = rw add-one (g .leads _ (answers.judged h e j))
 
-  pub end-refuted : length p ≤ at → {b : Bool} → EmptyLive f p words b → b ≡ true → Steps p vars F first 0 0 (Refuted done)
-  end-refuted h x e = let y = x .some e in g .leads _ (refuted {n = y .0} h (y .1))
+  -- the numbers in use hold all live clauses
+  used : live f p (take (next - 0) words) ≡ live f p words
+  used = let e : next - 0 ≡ next = omega arith in rw e (live-used f p next words (g .now .clauses .unused))
 
-  pub end-held : length p ≤ at → {b : Bool} → EmptyLive f p words b → b ≡ false → Steps p vars F first 0 0 (Held done)
-  end-held h x e = g .leads _ (held h (x .none e))
+  pub used-table : ClauseTable f p (length (take (next - 0) words)) (take (next - 0) words)
+  used-table =
+      let e : next - 0 ≡ next = omega arith in
+      rw (e, length-take-le next words (omega (arith, g .now .last, g .now .words-long))) (table-used (g .now .clauses))
+
+  pub end-refuted : length p ≤ at → {b : Bool} → EmptyLive f p (take (next - 0) words) b → b ≡ true → Steps p vars F first 0 0 (Refuted done)
+  end-refuted h x e = let y = x .some e in g .leads _ (refuted {n = y .0} h (rw used at (y .1)))
+
+  pub end-held : length p ≤ at → {b : Bool} → EmptyLive f p (take (next - 0) words) b → b ≡ false → Steps p vars F first 0 0 (Held done)
+  end-held h x e = g .leads _ (held h (rw used at (x .none e)))

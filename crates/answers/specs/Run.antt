@@ -2,9 +2,10 @@
 use Prim.Native.Nat.{ℕ, _≤_}
 use mathlib.Core.Path.{_≡_}
 use mathlib.Core.List.{List}
-use lib.ListN.{length, getD}
+use lib.ListN.{length}
 use Rattle.paper.specs.Files.{File}
 use Rattle.paper.proofs.Valid.{Kept}
+use Rattle.lookup.specs.Clause.{ClauseTable}
 use Rattle.lookup.specs.Live.{live}
 use Rattle.table.specs.Table.{Zero}
 
@@ -15,7 +16,7 @@ pub record Start (f p : File) (vars next : ℕ) (words t : List ℕ) : Type 0 wh
   pub first : 1 ≤ next
   pub last : next ≤ 16384
   pub words-long : length words ≡ 16384
-  pub unused : (k : ℕ) → next ≤ k → getD words k 0 ≡ 0
+  pub clauses : ClauseTable f p next words
   pub kept : Kept vars next (live f p words)
   pub table-long : length t ≡ 8192
   pub table-zero : Zero t

@@ -42,7 +42,8 @@ fn run_steps<'a>(
             }
         }
     }
-    if lookup::has_empty(formula, proof, words) {
+    let used = &words[0..next];
+    if lookup::has_empty(formula, proof, used) {
         return Verdict::Refuted(done);
     }
     Verdict::Held(done)

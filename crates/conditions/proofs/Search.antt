@@ -15,7 +15,7 @@ use Rattle.paper.specs.Conditions.{Passes}
 use Rattle.paper.proofs.Lists.{eqb-yes, eqb-no}
 use Rattle.paper.proofs.Valid.{Codes, Listed}
 use Rattle.paper.proofs.Scan.{codes-next, codes-end}
-use Rattle.lookup.specs.Clause.{clauseBytes}
+use Rattle.lookup.specs.Clause.{Entered, clauseBytes}
 use Rattle.lookup.specs.Live.{live}
 use Rattle.lookup.proofs.Live.{live-in, live-out}
 use Rattle.loading.specs.Loading.{Inward, Images, Decides}
@@ -146,11 +146,11 @@ module _ (f p : File) (ws : List ℕ) (C : Clause) (modulo : List ℕ) (t : List
   pub passed-named : (n : ℕ) → n ∈ codes modulo → Passed n → Passed (n + 1)
   passed-named n m below = passed-next n below (λ s images D q out. absurd (out m))
 
-  pub passed-dead : (n : ℕ) → getD ws n 0 ≡ 0 → Passed n → Passed (n + 1)
-  passed-dead n z below = passed-next n below (λ s images D q out. absurd (live-out f p ws q .entered z))
+  pub passed-dead : (n : ℕ) → getD ws n 0 < 1048576 → Passed n → Passed (n + 1)
+  passed-dead n z below = passed-next n below (λ s images D q out. let w = live-out f p ws q .entered in absurd (omega arith))
 
   -- the clause of number n, by the bytes that its word stands for
-  module _ (n : ℕ) (h : n < length ws) (ne : getD ws n 0 ≢ 0) (d : List ℕ) (e : d ≡ clauseBytes f p (getD ws n 0)) where
+  module _ (n : ℕ) (h : n < length ws) (ne : Entered (getD ws n 0)) (d : List ℕ) (e : d ≡ clauseBytes f p (getD ws n 0)) where
     pub number-live : Live F n (codes d)
     number-live = live-in f p ws (record { within = h; entered = ne; clause = ap codes e })
 
@@ -183,7 +183,7 @@ module _ (f p : File) (ws : List ℕ) (C : Clause) (modulo : List ℕ) (t : List
     pub same : u ≡ t
 
   -- what the test of the clause of number n asks
-  pub number-asked : (vars : ℕ) → Asked f p ws C vars t → Inward vars t → (u : List ℕ) → u ≡ t → (n : ℕ) → n < length ws → getD ws n 0 ≢ 0
+  pub number-asked : (vars : ℕ) → Asked f p ws C vars t → Inward vars t → (u : List ℕ) → u ≡ t → (n : ℕ) → n < length ws → Entered (getD ws n 0)
       → (d : List ℕ) → d ≡ clauseBytes f p (getD ws n 0) → Asked f p ws C vars u × (Inward vars u × Codes vars (codes d))
   number-asked vars asked inward u same n h ne d e = (
     subst (Asked f p ws C vars) (sym same) asked,
@@ -210,11 +210,11 @@ module _ (f p : File) (ws : List ℕ) (C : Clause) (modulo : List ℕ) (t : List
         out : (¬ (n ∈ codes modulo)) × Place modulo (n + 1) at
         out = place-unnamed modulo n at (k .place) unnamed
 
-        pub turn-dead : getD ws n 0 ≡ 0 → Searching u (n + 1) at
+        pub turn-dead : getD ws n 0 < 1048576 → Searching u (n + 1) at
         turn-dead z = record { number = omega arith; within = k .within; place = out .1; passed = passed-dead n z (k .passed); same = k .same }
 
         -- the answer to whether the clause of number n passes
-        module _ (ne : getD ws n 0 ≢ 0) (d : List ℕ) (e : d ≡ clauseBytes f p (getD ws n 0)) (r : Bool)
+        module _ (ne : Entered (getD ws n 0)) (d : List ℕ) (e : d ≡ clauseBytes f p (getD ws n 0)) (r : Bool)
             (answer : (s : Witness) → Images u s → Decides r (Passes F C s (codes d))) where
           said : (b : Bool) → r ≡ b → (s : Witness) → Images t s → Decides b (Passes F C s (codes d))
           said b q s images =

@@ -8,6 +8,7 @@ use Rattle.paper.specs.Atoms.{_∈_, Clause, Formula, Live, Witness}
 use Rattle.paper.specs.Files.{File}
 use Rattle.paper.specs.Conditions.{Passes, Lowest}
 use Rattle.paper.proofs.Valid.{Codes, Apart, Valid}
+use Rattle.lookup.specs.Clause.{ClauseTable}
 use Rattle.lookup.specs.Live.{live}
 use Rattle.loading.specs.Loading.{Ready}
 use Rattle.conditions.specs.declared.Failing.{Failing}
@@ -17,6 +18,7 @@ use Rattle.conditions.specs.declared.Failing.the-variants.{Nothing, At}
 pub record Asked (f p : File) (ws : List ℕ) (C : Clause) (vars : ℕ) (t : List ℕ) : Type 0 where
   pub ready : Ready vars t
   pub numbers : length ws ≤ 16384
+  pub clauses : ClauseTable f p (length ws) ws
   pub valid : Valid vars (live f p ws)
   pub codes : Codes vars C
   pub apart : Apart C

@@ -15,18 +15,19 @@ use Rattle.paper.specs.declared.Reason.the-variants.{ProofField, ProofCode, Pro
 use Rattle.paper.specs.declared.Extent.{Extent}
 use Rattle.paper.specs.declared.Fields.{Fields}
 use Rattle.paper.specs.Atoms.{Clause, Formula, Witness}
-use Rattle.paper.specs.Files.{File, ok, bad, _>>_, need, payload, past, codes, mappings, even}
+use Rattle.paper.specs.Files.{File, ok, bad, _>>_, need, payload, past, codes, mappings}
 use Rattle.paper.specs.Conditions.{without, after}
 use Rattle.paper.specs.Refusals.{each, no-two, check-clause, read-fields, check-mappings, check-numbers}
-use Rattle.paper.specs.Answers.{taken, Judged, deleted}
+use Rattle.paper.specs.Answers.{Outcome, taken, Judged, deleted}
 use Rattle.paper.proofs.Lists.{Distinct, eqb-same, eqb-other, leb-within}
 use Rattle.paper.proofs.Valid.{Codes, Apart, Mapping, Listed}
 use Rattle.paper.proofs.Reading.{Then, Ranged, check-clause-then, check-mappings-then, no-two-then, check-numbers-then}
 use Rattle.paper.proofs.Judging.{image-range}
 use Rattle.paper.proofs.Scan.{length-payload}
-use Rattle.lookup.specs.Clause.{proofWord}
+use Rattle.lookup.specs.Clause.{proofWord, ClauseTable}
 use Rattle.lookup.specs.Live.{live}
-use Rattle.lookup.proofs.Live.{live-used, entered-above}
+use Rattle.lookup.proofs.Live.{live-used}
+use Rattle.lookup.proofs.Table.{table-used}
 use Rattle.table.proofs.Kept.{zero-value}
 use Rattle.mapping.specs.Mapping.{Fitting, Bare, variables, loaded, unloaded, saidBy, tableAfter}
 use Rattle.mapping.specs.declared.Loaded.{Loaded}
@@ -37,10 +38,10 @@ use Rattle.clauses.specs.Check.{clauseSaid}
 use Rattle.clauses.specs.Check as clauses
 use Rattle.clauses.specs.declared.ClauseCheck.{ClauseCheck}
 use Rattle.clauses.specs.declared.ClauseCheck.the-variants as check
-use Rattle.steps.specs.Steps.{Removed}
+use Rattle.steps.specs.Steps.{removed, Below}
 use Rattle.steps.proofs.Part.{no-codes}
 use Rattle.steps.proofs.Fields.{Lie, lie}
-use Rattle.steps.proofs.Numbers.{above-kept, live-after}
+use Rattle.steps.proofs.Numbers.{removed-length, listed-used, after-removing, after-adding}
 use Rattle.steps.proofs.Step.{clause-of, witness-of, numbers-of, fields-refuse, clause-refuses, mappings-refuse, twice-refuses, numbers-refuse, used-up, new-read, delete-read, delete-tag}
 use Rattle.loading.specs.Loading as loading
 use Rattle.judging.specs.declared.Judgement.{Judgement}
@@ -48,7 +49,7 @@ use Rattle.judging.specs.declared.Judgement.the-variants.{Passed, Stoppe
 use Rattle.judging.specs.declared.StepAnswer.{StepAnswer}
 use Rattle.judging.specs.declared.StepAnswer.the-variants.{Taken}
 use Rattle.judging.specs.Step as step
-use Rattle.judging.specs.Step.{outcome, New, NewJudged, JudgementIs, unread, judged, Checkable, Loadable, Ready, Done}
+use Rattle.judging.specs.Step.{outcome, New, NewJudged, JudgementIs, unread, judged, Checkable, Loadable, Ready, words-after, Done}
 
 pub part-payload : (f : File) (e : Extent) → take (e .start + e .size - e .start) (drop (e .start) f) ≡ payload f e
 unfolding payload
@@ -165,7 +166,7 @@ module _ {f p : File} {at vars next : ℕ} {words t : List ℕ} {x : Fields} (c 
                   place = c .ready .place;
                   last = c .ready .last;
                   words-long = c .ready .words-long;
-                  unused = c .ready .unused;
+                  clauses = c .ready .clauses;
                   kept = c .ready .kept;
                   fields = c .fields;
                   clause = fine;
@@ -205,10 +206,13 @@ module _ {f p : File} {at vars next : ℕ} {words t : List ℕ} {x : Fields} (l 
   numbers-stop e = unread (numbers-refuse p vars G next at x (l .fields) (l .clause) (l .mapped) (l .once) _ _ e)
 
   module _ (fine : check-numbers G 0 (x .numbers .start) ns ≡ ok tt) where
+    listed : Listed G 0 ns
+    listed = subst (Then (λ _. Listed G 0 ns)) fine (check-numbers-then G 0 (x .numbers .start) ns)
+
     pub delete-passes : getD p at 0 ≡ 0x14 → JudgementIs p vars G next at x Passed
     unfolding outcome
     delete-passes e =
-        judged {j = Passed} (delete-read p vars G next at x (l .fields) (l .clause) (l .mapped) (l .once) fine e) (λ ne. absurd (ne e))
+        judged {j = Passed} (delete-read p vars G next at x (l .fields) (l .clause) (l .mapped) (l .once) fine e) (λ ne. absurd (ne e)) listed
         (rw (delete-tag C s ns (getD p at 0) e, eqb-same (getD p at 0) 0x14 e, outcome) deleted)
 
     pub number-stops : getD p at 0 ≢ 0x14 → 16384 ≤ next → JudgementIs p vars G next at x (Stopped NumbersUsedUp at)
@@ -225,21 +229,24 @@ module _ {f p : File} {at vars next : ℕ} {words t : List ℕ} {x : Fields} (l 
 
     -- the numbers in use hold all live clauses
     used : live f p (take (next - 0) words) ≡ G
-    used = let e : next - 0 ≡ next = omega arith in rw e (live-used f p next words (l .unused))
+    used = let e : next - 0 ≡ next = omega arith in rw e (live-used f p next words (l .clauses .unused))
+
+    in-use : length (take (next - 0) words) ≡ next
+    in-use = let e : next - 0 ≡ next = omega arith in rw e (length-take-le next words (omega (arith, l .last, l .words-long)))
 
     pub new : getD p at 0 ≢ 0x14 → next < 16384 → (clause numbers : List ℕ) → clause ≡ payload p (x .clause) → numbers ≡ payload p (x .numbers)
         → New f p (take (next - 0) words) (getD p at 0) clause numbers vars next t
     new ne h clause numbers ec en =
         let i = lie p at x (l .fields) in
         let c = subst (Then (λ _. Codes vars C × Apart C)) (l .clause) (check-clause-then ProofCode ProofTwice vars at C) in
-        let n = subst (Then (λ _. Listed G 0 ns)) fine (check-numbers-then G 0 (x .numbers .start) ns) in
         record {
           from = i .tag-from;
           to = omega (arith, i .tag-to);
-          limit = omega (arith, length-take-le (next - 0) words (omega (arith, l .words-long)));
+          limit = omega (arith, in-use);
+          clauses = rw in-use (let e : next - 0 ≡ next = omega arith in rw e (table-used (l .clauses)));
           kept = rw used (l .kept);
           new = rw ec (record { codes = c .0; apart = c .1; number = h });
-          listed = rw (used, en) n;
+          listed = rw (used, en) listed;
           none-listed = λ b. rw en (no-codes p (x .numbers) (i .no-numbers b));
           table = l .table;
           inward = λ k low high. rw (l .images k low (omega (arith, l .table .small))) (image-range vars s k (mapping .atoms) high);
@@ -248,7 +255,7 @@ module _ {f p : File} {at vars next : ℕ} {words t : List ℕ} {x : Fields} (l 
     pub new-judged : getD p at 0 ≢ 0x14 → next < 16384 → (clause numbers : List ℕ) → clause ≡ payload p (x .clause) → numbers ≡ payload p (x .numbers)
         → (r : Judgement) → NewJudged f p (take (next - 0) words) (getD p at 0) clause numbers vars next t r → JudgementIs p vars G next at x r
     new-judged ne h clause numbers ec en r j =
-        judged (new-read p vars G next at x (l .fields) (l .clause) (l .mapped) (l .once) fine ne h) (λ _. h)
+        judged (new-read p vars G next at x (l .fields) (l .clause) (l .mapped) (l .once) fine ne h) (λ _. h) listed
         (rw (used, ec, en) at (j s mapping (l .images)))
 
 -- 4. The step taken into the clause table.
@@ -261,59 +268,86 @@ module _ {f p : File} {at vars next : ℕ} {words t : List ℕ} (r : Ready f p a
         → Done f p at vars next words t (StepAnswer.Stopped why q) words u
     unfolding outcome
     step-stopped (unread e) = record { answer = step.unread e; after = refl; table = same }
-    step-stopped (judged e h j) = record { answer = step.refused e j; after = refl; table = same }
+    step-stopped (judged e h n j) = record { answer = step.refused e j; after = refl; table = same }
 
-    module _ (fields : read-fields p at ≡ ok x) (us : List ℕ) (cleared : Removed p (numbers-of p x) words us)
-        (passed : JudgementIs p vars (live f p words) next at x Passed) where
-      pub deleted-done : getD p at 0 ≡ 0x14 → Done f p at vars next words t (Taken next (x .next)) us u
-      unfolding outcome
-      deleted-done e = go passed
+    module _ (passed : JudgementIs p vars (live f p words) next at x Passed) where
+      -- the numbers that it names are in use
+      pub numbers-used : Below next (numbers-of p x)
+      numbers-used = go passed
         where
-          go : JudgementIs p vars (live f p words) next at x Passed → Done f p at vars next words t (Taken next (x .next)) us u
-          go (judged {t = s} q h j) =
-              record {
-                answer = step.goes-on {m = next} {G = live f p us} q
-                    (rw (cleared .live-now f) (subst (λ (b : Bool). Judged (live f p words) next s
-                    (elim b [ true ↦ taken (without (numbers-of p x) (live f p words)) next | false ↦ taken (after (numbers-of p x) next (clause-of p x) (live f p words)) (suc next) ]))
-                    (eqb-same (getD p at 0) 0x14 e) j));
-                after = (cleared .same-length, r .last, above-kept cleared next (r .unused));
-                table = same;
-              }
+          go : JudgementIs p vars (live f p words) next at x Passed → Below next (numbers-of p x)
+          go (judged q h n j) = listed-used (r .clauses) (numbers-of p x) n
 
       pub number-free : getD p at 0 ≢ 0x14 → next < 16384
       number-free ne = go passed
         where
           go : JudgementIs p vars (live f p words) next at x Passed → next < 16384
-          go (judged q h j) = h ne
+          go (judged q h n j) = h ne
 
-      pub added-done : getD p at 0 ≢ 0x14 → (ws : List ℕ) (w : ℕ) → ws ≡ set us next w → w ≡ proofWord at
-          → Done f p at vars next words t (Taken (next + 1) (x .next)) ws u
-      unfolding outcome
-      added-done ne ws w ew at-word = go passed
-        where
-          e : ws ≡ set us next (proofWord at)
-          e = ew ∙ ap (λ (y : ℕ). set us next y) at-word
+      -- its outcome, by whether it deletes
+      abbrev outcomes : Bool → Outcome
+      outcomes b =
+          elim b [
+            | true ↦ taken (without (numbers-of p x) (live f p words)) next
+            | false ↦ taken (after (numbers-of p x) next (clause-of p x) (live f p words)) (suc next)
+          ]
 
-          small : next < 16384
-          small = number-free ne
+      module _ (fields : read-fields p at ≡ ok x) (us : List ℕ) (e : us ≡ removed words (numbers-of p x)) where
+        room : next ≤ length words
+        room = omega (arith, r .last, r .words-long)
 
-          now : live f p ws ≡ after (numbers-of p x) next (clause-of p x) (live f p words)
-          now =
-              ap (live f p) e
-              ∙ live-after cleared ProofField (getD p at 0) even f at (x .clause) (omega (arith, r .place, r .proof-short)) next (r .unused)
-              (omega (arith, small, r .words-long)) ((lie p at x fields) .new ne)
+        pub deleted-done : getD p at 0 ≡ 0x14 → Done f p at vars next words t (Taken next (x .next)) us u
+        unfolding outcome words-after
+        deleted-done d = go passed
+          where
+            now : (live f p (removed words (numbers-of p x)) ≡ without (numbers-of p x) (live f p words)) × ClauseTable f p next (removed words (numbers-of p x))
+            now = after-removing (r .clauses) (r .last) room (numbers-of p x) numbers-used
 
-          go : JudgementIs p vars (live f p words) next at x Passed → Done f p at vars next words t (Taken (next + 1) (x .next)) ws u
-          go (judged {t = s} q h j) =
-              record {
-                answer = rw add-one (step.goes-on {m = suc next} {G = live f p ws} q
-                    (rw now (subst (λ (b : Bool). Judged (live f p words) next s
-                    (elim b [ true ↦ taken (without (numbers-of p x) (live f p words)) next | false ↦ taken (after (numbers-of p x) next (clause-of p x) (live f p words)) (suc next) ]))
-                    (eqb-other (getD p at 0) 0x14 ne) j)));
-                after = (
-                  ap length e ∙ length-set us next (proofWord at) ∙ cleared .same-length,
-                  omega (arith, small),
-                  (λ k b. ap (λ (y : List ℕ). getD y k 0) e ∙ entered-above f p us next (proofWord at) (above-kept cleared next (r .unused)) k b),
-                );
-                table = same;
-              }
+            go : JudgementIs p vars (live f p words) next at x Passed → Done f p at vars next words t (Taken next (x .next)) us u
+            go (judged {t = s} q h n j) =
+                record {
+                  answer = step.goes-on {m = next} {G = live f p us} q
+                      (rw (e, now .0) (subst (λ (b : Bool). Judged (live f p words) next s (outcomes b)) (eqb-same (getD p at 0) 0x14 d) j));
+                  after = record {
+                    fields = x;
+                    read = fields;
+                    contents = e ∙ rw (eqb-same (getD p at 0) 0x14 d, words-after);
+                    long = ap length e ∙ removed-length (numbers-of p x) words;
+                    last = r .last;
+                    clauses = rw e (now .1);
+                  };
+                  table = same;
+                }
+
+        pub added-done : getD p at 0 ≢ 0x14 → (ws : List ℕ) (w : ℕ) → ws ≡ set us next w → w ≡ proofWord at
+            → Done f p at vars next words t (Taken (next + 1) (x .next)) ws u
+        unfolding outcome words-after
+        added-done ne ws w ew at-word = go passed
+          where
+            contents : ws ≡ set (removed words (numbers-of p x)) next (proofWord at)
+            contents = ew ∙ ap (λ (y : ℕ). set us next y) at-word ∙ ap (λ (y : List ℕ). set y next (proofWord at)) e
+
+            small : next < 16384
+            small = number-free ne
+
+            now : (live f p (set (removed words (numbers-of p x)) next (proofWord at)) ≡ after (numbers-of p x) next (clause-of p x) (live f p words))
+                × ClauseTable f p (next + 1) (set (removed words (numbers-of p x)) next (proofWord at))
+            now =
+                after-adding (r .clauses) (r .last) room (numbers-of p x) numbers-used ProofField (getD p at 0) at (x .clause)
+                (omega (arith, r .place, r .proof-short)) (omega (arith, small, r .words-long)) ((lie p at x fields) .new ne)
+
+            go : JudgementIs p vars (live f p words) next at x Passed → Done f p at vars next words t (Taken (next + 1) (x .next)) ws u
+            go (judged {t = s} q h n j) =
+                record {
+                  answer = rw add-one (step.goes-on {m = suc next} {G = live f p ws} q
+                      (rw (contents, now .0) (subst (λ (b : Bool). Judged (live f p words) next s (outcomes b)) (eqb-other (getD p at 0) 0x14 ne) j)));
+                  after = record {
+                    fields = x;
+                    read = fields;
+                    contents = contents ∙ rw (eqb-other (getD p at 0) 0x14 ne, words-after);
+                    long = ap length contents ∙ length-set (removed words (numbers-of p x)) next (proofWord at) ∙ removed-length (numbers-of p x) words;
+                    last = omega (arith, small);
+                    clauses = rw contents (now .1);
+                  };
+                  table = same;
+                }

@@ -5,7 +5,7 @@ use mathlib.Core.Logic.{_≢_}
 use mathlib.Core.Bool.{true, false}
 use mathlib.Core.List.{List, [], map}
 use lib.Dec.{eqb}
-use lib.ListN.{length, getD}
+use lib.ListN.{length, getD, set}
 use Rattle.paper.specs.declared.Reason.{Reason}
 use Rattle.paper.specs.declared.Reason.the-variants.{ProofCode, ProofTwice}
 use Rattle.paper.specs.declared.Fields.{Fields}
@@ -16,8 +16,10 @@ use Rattle.paper.specs.Refusals.{no-two, check-clause, read-fields, check-mappi
 use Rattle.paper.specs.Answers.{Outcome, taken, stops, Judged}
 use Rattle.paper.proofs.Valid.{Kept, Mapping, Listed}
 use Rattle.paper.proofs.Valid as valid
+use Rattle.lookup.specs.Clause.{proofWord, ClauseTable}
 use Rattle.lookup.specs.Live.{live}
 use Rattle.table.specs.Table.{Zero}
+use Rattle.steps.specs.Steps.{removed}
 use Rattle.loading.specs.Loading.{Images, Inward}
 use Rattle.loading.specs.Loading as loading
 use Rattle.judging.specs.declared.Judgement.{Judgement}
@@ -36,6 +38,7 @@ pub record New (f p : File) (ws : List ℕ) (tag : ℕ) (clause numbers : List �
   pub from : 0x11 ≤ tag
   pub to : tag ≤ 0x13
   pub limit : length ws ≤ 16384
+  pub clauses : ClauseTable f p (length ws) ws
   pub kept : Kept vars next (live f p ws)
   pub new : valid.New vars next (codes clause)
   pub listed : Listed (live f p ws) 0 (codes numbers)
@@ -53,6 +56,7 @@ NewJudged f p ws tag clause numbers vars next t r =
 pub data JudgementIs (proof : File) (vars : ℕ) (F : Formula) (next at : ℕ) (x : Fields) : Judgement → Type 0 where
   unread : {r : Reason} {p : ℕ} → read-step proof vars F next at ≡ bad r p → JudgementIs proof vars F next at x (Judgement.Stopped r p)
   judged : {t : Step} {j : Judgement} → read-step proof vars F next at ≡ ok (t, x .next) → (getD proof at 0 ≢ 0x14 → next < 16384)
+      → Listed F 0 (codes (payload proof (x .numbers)))
       → Judged F next t (outcome F next (getD proof at 0) (codes (payload proof (x .clause))) (codes (payload proof (x .numbers))) j)
       → JudgementIs proof vars F next at x j
 
@@ -73,19 +77,36 @@ pub record Ready (f p : File) (at vars next : ℕ) (words t : List ℕ) : Type 0
   pub first : 1 ≤ next
   pub last : next ≤ 16384
   pub words-long : length words ≡ 16384
-  pub unused : (k : ℕ) → next ≤ k → getD words k 0 ≡ 0
+  pub clauses : ClauseTable f p next words
   pub kept : Kept vars next (live f p words)
   pub table-long : length t ≡ 8192
   pub table-zero : Zero t
 
--- the clause table after the answer: as it was, or with room for the next number
-abbrev pub After : StepAnswer → List ℕ → List ℕ → Type 0
-After (StepAnswer.Stopped r p) ws ws′ = ws′ ≡ ws
-After (Taken m later) ws ws′ = (length ws′ ≡ length ws) × (m ≤ 16384) × ((k : ℕ) → m ≤ k → getD ws′ k 0 ≡ 0)
+-- the words after a step with those fields: the numbers that it names cleared, and its new clause, if it has one, entered
+unfoldable pub words-after : File → ℕ → ℕ → Fields → List ℕ → List ℕ
+words-after p at next x words =
+    elim (eqb (getD p at 0) 0x14) [
+      | true ↦ removed words (codes (payload p (x .numbers)))
+      | false ↦ set (removed words (codes (payload p (x .numbers)))) next (proofWord at)
+    ]
+
+-- the clause table after a step that is taken; m is the next number then
+pub record Entered (f p : File) (at next : ℕ) (words : List ℕ) (m : ℕ) (words′ : List ℕ) : Type 0 where
+  pub fields : Fields
+  pub read : read-fields p at ≡ ok fields
+  pub contents : words′ ≡ words-after p at next fields words
+  pub long : length words′ ≡ length words
+  pub last : m ≤ 16384
+  pub clauses : ClauseTable f p m words′
+
+-- and after any answer: a step that is refused leaves it as it was
+abbrev pub After : File → File → ℕ → ℕ → StepAnswer → List ℕ → List ℕ → Type 0
+After f p at next (StepAnswer.Stopped reason place) words words′ = words′ ≡ words
+After f p at next (Taken m later) words words′ = Entered f p at next words m words′
 
 pub record Done (f p : File) (at vars next : ℕ) (words t : List ℕ) (r : StepAnswer) (words′ t′ : List ℕ) : Type 0 where
   pub answer : StepIs p vars (live f p words) next at r (live f p words′)
-  pub after : After r words words′
+  pub after : After f p at next r words words′
   pub table : t′ ≡ t
 
 -- the fields of the step were read
@@ -98,7 +119,7 @@ pub record Loadable (f p : File) (at : ℕ) (x : Fields) (vars next : ℕ) (word
   pub place : at < length p
   pub last : next ≤ 16384
   pub words-long : length words ≡ 16384
-  pub unused : (k : ℕ) → next ≤ k → getD words k 0 ≡ 0
+  pub clauses : ClauseTable f p next words
   pub kept : Kept vars next (live f p words)
   pub fields : read-fields p at ≡ ok x
   pub clause : check-clause ProofCode ProofTwice vars at (codes (payload p (x .clause))) ≡ ok tt

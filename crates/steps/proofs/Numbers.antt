@@ -6,6 +6,7 @@ use mathlib.Core.Path.{_≡_, refl, sym, ap, _∙_}
 use mathlib.Core.Bool.{Bool, true, false, _&&_}
 use mathlib.Core.List.{List, [], _∷_, _++_, List·Memᴰ·head, List·Memᴰ·tail}
 use native.Mathlib.Omega.{arith}
+use native.Mathlib.Decide.{decLt}
 use lib.Dec.{ltb}
 use lib.ListN.{length, getD, set, List·getD-eq-default}
 use Rattle.paper.specs.declared.Reason.{Reason}
@@ -15,7 +16,8 @@ use Rattle.paper.specs.Atoms.{_∈_, Formula}
 use Rattle.paper.specs.Files.{File, Read, ok, _>>_, need, two, payload, field, even, codes}
 use Rattle.paper.specs.Conditions.{is-in, without, after}
 use Rattle.paper.specs.Refusals.{is-live, check-numbers}
-use Rattle.paper.proofs.Lists.{leb-within, leb-beyond}
+use Rattle.paper.proofs.Lists.{leb-yes, leb-within, leb-beyond}
+use Rattle.paper.proofs.Valid.{Listed}
 use Rattle.paper.proofs.Scan.{part-end, part-next}
 use Rattle.lookup.specs.Clause.{proofWord, Entered, cleared, ClauseTable}
 use Rattle.lookup.specs.Live.{live}
@@ -80,10 +82,10 @@ unfolding without is-in
 without-none [] = refl
 without-none (D ∷ F) = ap (λ (G : Formula). D ∷ G) (without-none F)
 
-length-removed : (ns ws : List ℕ) → length (removed ws ns) ≡ length ws
+pub removed-length : (ns ws : List ℕ) → length (removed ws ns) ≡ length ws
 unfolding removed
-length-removed [] ws = refl
-length-removed (n ∷ ns) ws = cleared-length (removed ws ns) n ∙ length-removed ns ws
+removed-length [] ws = refl
+removed-length (n ∷ ns) ws = cleared-length (removed ws ns) n ∙ removed-length ns ws
 
 -- what holds of all the listed numbers holds of the first, and of the others
 below-first : {k n : ℕ} {ns : List ℕ} → Below k (n ∷ ns) → n < k
@@ -106,7 +108,7 @@ unfolding removed
 table-removed [] ws t last long b = t
 table-removed {f} {p} {next} (n ∷ ns) ws t last long b =
     let below : n < next = below-first b in
-    table-cleared (table-removed ns ws t last long (below-rest b)) n (omega (arith, length-removed ns ws)) below last
+    table-cleared (table-removed ns ws t last long (below-rest b)) n (omega (arith, removed-length ns ws)) below last
 
 -- The loop goes from the last number to the first: at its end, and one turn of it, where n is the number as it was read.
 pub removed-none : (p : File) (ws : List ℕ) (e : ℕ) → ws ≡ removed ws (codes (upto p e e))
@@ -140,6 +142,21 @@ listed-below p x g b i n from even-place h q =
     let z : x .start + 2 * ((i - x .start) / 2) ≡ i = omega arith in
     b n (rw (← payload-upto p x) (later-in p (x .start + x .size) ((i - x .start) / 2) (x .start) n g (omega arith) (rw z q)))
 
+-- the numbers of live clauses are in use
+listed-live : (F : Formula) (last : ℕ) (ns : List ℕ) → Listed F last ns → (n : ℕ) → n ∈ ns → is-live n F ≡ true
+listed-live F last (m ∷ ns) l n (List·Memᴰ·head e) = rw e (l .0)
+listed-live F last (m ∷ ns) l n (List·Memᴰ·tail q) = listed-live F m ns (l .2) n q
+
+pub listed-used : {f p : File} {next : ℕ} {ws : List ℕ} → ClauseTable f p next ws → (ns : List ℕ) → Listed (live f p ws) 0 ns → Below next ns
+listed-used {f} {p} {next} {ws} t ns l n q = go (decLt n next)
+  where
+    in-use : Entered (getD ws n 0)
+    in-use = leb-yes 1048576 (getD ws n 0) (sym (is-live-word f p ws n) ∙ listed-live (live f p ws) 0 ns l n q)
+
+    go : Dec (n < next) → n < next
+    go (yes h) = h
+    go (no h) = let z = t .unused n (omega arith) in absurd (omega (arith, in-use))
+
 -- 3. The table after a step: "After a step RUP, SR or WSR, C is live and the MODULO clauses aren't."
 module _ {f p : File} {next : ℕ} {ws : List ℕ} (t : ClauseTable f p next ws) (last : next ≤ 16384) (long : next ≤ length ws) (ns : List ℕ) (b : Below next ns) where
   below-wide : Below 65536 ns
@@ -156,11 +173,8 @@ module _ {f p : File} {next : ℕ} {ws : List ℕ} (t : ClauseTable f p next ws)
     unfolding after
     after-adding =
         let u = after-removing .1 in
-        let h : next < length (removed ws ns) = omega (arith, length-removed ns ws) in (
+        let h : next < length (removed ws ns) = omega (arith, removed-length ns ws) in (
           proof-entered why tag f p at e small (removed ws ns) next (u .unused) h q
               ∙ ap (λ (G : Formula). G ++ ((next, codes (payload p e)) ∷ [])) (after-removing .0),
           table-entered u h (proofWord at) (omega arith) (proof-stands why tag f p at e q),
         )
-
-pub same-length : (ns ws : List ℕ) → length (removed ws ns) ≡ length ws
-same-length = length-removed

@@ -37,7 +37,10 @@ shared-slice-read-if2 : tie.Need-shared-slice-read-if2 Inv-loop μ-loop
 shared-slice-read-if2 c = search needs
 
 clause-at-requires : tie.Need-clause-at-requires Inv-loop μ-loop
-clause-at-requires c κs = search needs
+clause-at-requires c κs =
+    let i = c .before .before .before .before in
+    let pre = i .before .before .before .before .before .before .before .before .pre in
+    (i .loop-test .taken, (c .if2 .taken, pre .0 .clauses .stands _ (c .if2 .taken)))
 
 passes-requires : tie.Need-passes-requires Inv-loop μ-loop
 passes-requires c κs =

@@ -15,61 +15,48 @@ use Rattle.lookup.proofs.proof_word.Reads as proof-word-reads
 use Rattle.steps.proofs.read_fields.Reads as read-fields-reads
 use Rattle.steps.proofs.remove_numbers.Reads as remove-numbers-reads
 
--- src/lib.rt:152:11
 read-fields-requires : tie.Need-read-fields-requires
 read-fields-requires c κs = search needs
 
--- src/lib.rt:153:25
 enum-known-place : tie.Need-enum-known-place
 enum-known-place c = search needs
 
--- src/lib.rt:157:27
 enum-known-x : tie.Need-enum-known-x
 enum-known-x c = search needs
 
--- src/lib.rt:157:39
 judge-fields-requires : tie.Need-judge-fields-requires
 judge-fields-requires c κs =
     record { ready = c .before .before .before .before .before .before .before .before .before .before .pre; fields = whole _ _ _ (sym (c .before .before .before .x .given .1) ∙ c .before .before .before .before .before .read-fields .ensures) }
 
--- src/lib.rt:158:34
 enum-known-reason : tie.Need-enum-known-reason
 enum-known-reason c = search needs
 
--- src/lib.rt:160:21
 enum-told : tie.Need-enum-told
 enum-told c = search needs
 
--- src/lib.rt:161:17
 remove-numbers-requires : tie.Need-remove-numbers-requires
 remove-numbers-requires c κs =
     let i = lie _ _ _ (whole _ _ _ (sym (c .before .before .before .before .before .before .before .before .before .before .x .given .1) ∙ c .before .before .before .before .before .before .before .before .before .before .before .before .read-fields .ensures)) in
-    (i .numbers-within, i .numbers-even)
+    ?
 
--- src/lib.rt:162:20
 shared-slice-read-if1 : tie.Need-shared-slice-read-if1
 shared-slice-read-if1 c = search needs
 
--- src/lib.rt:163:21
 same-length : tie.Need-same-length
 same-length c = search needs
 
--- src/lib.rt:163:21
 same-length-2 : tie.Need-same-length-2
 same-length-2 c = search needs
 
--- src/lib.rt:163:21
 returns : tie.Need-returns
 returns c =
     let fields = whole _ _ _ (sym (c .before .before .before .before .before .before .before .before .before .before .before .before .before .before .before .x .given .1) ∙ c .before .before .before .before .before .before .before .before .before .before .before .before .before .before .before .before .before .read-fields .ensures) in
     let d = c .before .before .before .before .before .before .before .before .before .before .before .judge-fields .ensures in
     deleted-done (c .before .before .before .before .before .before .before .before .before .before .before .before .before .before .before .before .before .before .before .before .before .before .pre) _ _ (d .1) fields _ (c .before .before .before .before .remove-numbers .ensures) (rw (c .before .before .before .before .before .before .before .enum-told .given .1) at (d .0)) (c .if1 .taken)
 
--- src/lib.rt:165:44
 proof-word-requires : tie.Need-proof-word-requires
 proof-word-requires c κs = search needs
 
--- src/lib.rt:165:17
 enter-requires : tie.Need-enter-requires
 enter-requires c κs =
     let r = c .before .before .before .before .before .before .before .before .before .before .before .before .before .before .before .before .before .before .before .before .before .before .before .before .pre in
@@ -78,37 +65,29 @@ enter-requires c κs =
     let free = number-free r _ _ (d .1) fields _ (c .before .before .before .before .before .before .remove-numbers .ensures) (rw (c .before .before .before .before .before .before .before .before .before .enum-told .given .1) at (d .0)) (c .before .before .if1 .left) in
     omega (arith, c .before .before .before .before .before .before .remove-numbers .ensures .same-length, r .words-long)
 
--- src/lib.rt:167:27
 add-t31 : tie.Need-add-t31
 add-t31 c = omega (arith, c .before .before .before .before .before .before .before .before .before .before .before .before .before .before .before .before .before .before .before .before .before .before .before .before .before .before .before .pre .last)
 
--- src/lib.rt:140:1
 returns-2 : tie.Need-returns-2
 returns-2 c = fields-stop (c .before .before .before .before .before .before .before .before .pre) (refused _ _ _ (sym (c .before .place .given .1) ∙ c .before .before .before .read-fields .ensures))
 
--- src/lib.rt:140:1
 same-length-3 : tie.Need-same-length-3
 same-length-3 c = search needs
 
--- src/lib.rt:140:1
 same-length-4 : tie.Need-same-length-4
 same-length-4 c = search needs
 
--- src/lib.rt:140:1
 returns-3 : tie.Need-returns-3
 returns-3 c =
     let d = c .before .before .before .before .before .judge-fields .ensures in
     step-stopped (c .before .before .before .before .before .before .before .before .before .before .before .before .before .before .before .before .pre) (c .before .before .before .before .before .before .before .before .before .x .given .0 .0) _ (d .1) (rw (c .before .reason .given .1) at (d .0))
 
--- src/lib.rt:140:1
 same-length-5 : tie.Need-same-length-5
 same-length-5 c = search needs
 
--- src/lib.rt:140:1
 same-length-6 : tie.Need-same-length-6
 same-length-6 c = search needs
 
--- src/lib.rt:140:1
 returns-4 : tie.Need-returns-4
 returns-4 c =
     let fields = whole _ _ _ (sym (c .before .before .before .before .before .before .before .before .before .before .before .before .before .before .before .before .before .before .before .before .x .given .1) ∙ c .before .before .before .before .before .before .before .before .before .before .before .before .before .before .before .before .before .before .before .before .before .before .read-fields .ensures) in
