@@ -2,3 +2,4 @@ pub mod Turns
 pub mod Opposed
 pub mod Trivial
 pub mod State
+pub mod Witness
