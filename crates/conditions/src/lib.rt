@@ -48,7 +48,8 @@ pub fn passes<'a>(
     loading::assume_clause(clause, t);
     match loading::assume_images(d, t) {
         Assumed::Passes => {
-            table::clear_values(t, vars);
+            loading::unset_clause(clause, t);
+            loading::unset_images(d, t);
             true
         }
         Assumed::Open => {

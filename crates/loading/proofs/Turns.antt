@@ -11,11 +11,11 @@ use Rattle.paper.specs.Atoms.{complement, Clause}
 use Rattle.paper.specs.Files.{two, codes}
 use Rattle.paper.proofs.Lists.{eqb-same, eqb-other}
 use Rattle.paper.proofs.Scan.{codes-next, codes-end}
-use Rattle.table.specs.Table.{imageOf}
+use Rattle.table.specs.Table.{imageOf, setValue}
 use Rattle.table.proofs.Laws.{length-setValue}
 use Rattle.loading.specs.declared.Assumed.{Assumed}
 use Rattle.loading.specs.declared.Assumed.the-variants.{Passes, Open}
-use Rattle.loading.specs.Loading.{Storable, trueAt, makeTrue, assumed, Outcome, imaged}
+use Rattle.loading.specs.Loading.{Storable, trueAt, makeTrue, assumed, Outcome, imaged, unsetClause, unsetImages}
 
 -- 1. The definitions by cases.
 pub assumed-next : (t : List ℕ) (l : ℕ) (C : Clause) → assumed t (l ∷ C) ≡ assumed (makeTrue t (complement l)) C
@@ -25,6 +25,22 @@ assumed-next t l C = refl
 pub assumed-end : (t : List ℕ) → assumed t [] ≡ t
 unfolding assumed
 assumed-end t = refl
+
+pub unset-clause-next : (t : List ℕ) (l : ℕ) (C : Clause) → unsetClause t (l ∷ C) ≡ unsetClause (setValue t (l / 2) 0) C
+unfolding unsetClause
+unset-clause-next t l C = refl
+
+pub unset-clause-end : (t : List ℕ) → unsetClause t [] ≡ t
+unfolding unsetClause
+unset-clause-end t = refl
+
+pub unset-images-next : (t : List ℕ) (l : ℕ) (D : Clause) → unsetImages t (l ∷ D) ≡ unsetImages (setValue t (imageOf t l / 2) 0) D
+unfolding unsetImages
+unset-images-next t l D = refl
+
+pub unset-images-end : (t : List ℕ) → unsetImages t [] ≡ t
+unfolding unsetImages
+unset-images-end t = refl
 
 pub imaged-end : (t : List ℕ) → imaged t [] ≡ record { answer = Open; table = t }
 unfolding imaged

@@ -49,6 +49,16 @@ imaged t (l ∷ D) =
       ]
     ]
 
+-- the variables of the literals of a clause unset, one after the other
+unfoldable pub unsetClause : List ℕ → Clause → List ℕ
+unsetClause t [] = t
+unsetClause t (l ∷ C) = unsetClause (setValue t (l / 2) 0) C
+
+-- the variables of the images of its literals unset; true and false are variable 0, which has no value
+unfoldable pub unsetImages : List ℕ → Clause → List ℕ
+unsetImages t [] = t
+unsetImages t (l ∷ D) = unsetImages (setValue t (imageOf t l / 2) 0) D
+
 -- no variable has a value
 abbrev pub Unset : List ℕ → Type 0
 Unset t = (v : ℕ) → valueAt t v ≡ 0

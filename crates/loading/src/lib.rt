@@ -7,7 +7,7 @@ ghost use Rattle.paper.specs.Atoms.{complement, Witness};
 ghost use Rattle.paper.specs.Files.{codes};
 ghost use Rattle.paper.specs.Conditions.{Trivialises};
 ghost use Rattle.paper.proofs.Valid.{Codes};
-ghost use Rattle.loading.specs.Loading.{Storable, assumed, imaged, Ready, Inward, Images, Decides};
+ghost use Rattle.loading.specs.Loading.{Storable, assumed, imaged, unsetClause, unsetImages, Ready, Inward, Images, Decides};
 
 fn opposite(l: usize) -> usize
     requires { ⌜ l < 8192 ⌝ }
@@ -55,6 +55,31 @@ pub fn assume_images(clause: &[u8], t: &mut [u8]) -> Assumed
         i += 2;
     }
     Assumed::Open
+}
+
+// Unsets the variable of each literal of the clause.
+pub fn unset_clause(clause: &[u8], t: &mut [u8])
+    requires { ⌜ (8192 ≤ length (now t)) × Storable (codes (now clause)) ⌝ }
+    ensures { λ _. ⌜ now (t .exit) ≡ unsetClause (now (t .entry)) (codes (now (clause .entry))) ⌝ }
+{
+    let mut i: usize = 0;
+    while i + 1 < clause.len() {
+        table::set_value(t, field::pair_at(clause, i) / 2, 0);
+        i += 2;
+    }
+}
+
+// Unsets the variable of the image of each literal.
+pub fn unset_images(clause: &[u8], t: &mut [u8])
+    requires { ⌜ (8192 ≤ length (now t)) × Storable (codes (now clause)) ⌝ }
+    ensures { λ _. ⌜ now (t .exit) ≡ unsetImages (now (t .entry)) (codes (now (clause .entry))) ⌝ }
+{
+    let mut i: usize = 0;
+    while i + 1 < clause.len() {
+        let a = table::image_of(t, field::pair_at(clause, i));
+        table::set_value(t, a / 2, 0);
+        i += 2;
+    }
 }
 
 // Whether the witness whose images the table holds trivialises the clause.

@@ -1,7 +1,8 @@
 -- `conditions::passes` meets its contract. Assumes nothing.
 use mathlib.Core.Path.{sym, _∙_}
 use borrow.Author.Needs.{needs}
-use Rattle.conditions.proofs.Answers.{clause-fits, clause-state, within-propagable, within-cleared, propagated-cleared, images-fit, images-leave, passes-by-images, passes-by-clash}
+use Rattle.loading.proofs.Undone.{both-undone}
+use Rattle.conditions.proofs.Answers.{clause-fits, clause-state, within-propagable, propagated-cleared, images-fit, images-leave, passes-by-images, passes-by-clash}
 use Rattle.conditions.proofs.passes.Statement.{statement}
 use Rattle.conditions.proofs.passes.Tie as tie
 
@@ -17,12 +18,22 @@ assume-images-requires c κs =
 enum-told : tie.Need-enum-told
 enum-told c = search needs
 
-clear-values-requires : tie.Need-clear-values-requires
-clear-values-requires c κs =
+unset-clause-requires : tie.Need-unset-clause-requires
+unset-clause-requires c κs =
     let m = c .before .before .before .before .before in
     let k = m .before .before .before .before in
-    let ready = k .before .before .before .before .before .before .before .before .pre .0 .ready in
-    search needs
+    let asked = k .before .before .before .before .before .before .before .before .pre .0 in
+    let long = asked .ready .long in
+    (search needs, clause-fits _ _ _ _ _ _ asked .1)
+
+unset-images-requires : tie.Need-unset-images-requires
+unset-images-requires c κs =
+    let b = c .before .before .before in
+    let m = b .before .before .before .before .before .before in
+    let k = m .before .before .before .before in
+    let pre = k .before .before .before .before .before .before .before .before .pre in
+    let long = pre .0 .ready .long in
+    (search needs, images-fit _ _ _ _ _ _ (pre .0) (pre .1 .0) _ (pre .1 .1) _ (clause-state _ _ _ _ _ _ (pre .0) _ (k .assume-clause .ensures)) .1)
 
 enum-told-2 : tie.Need-enum-told-2
 enum-told-2 c = search needs
@@ -35,8 +46,8 @@ propagate-requires c κs =
     let o = clause-state _ _ _ _ _ _ (pre .0) _ (k .assume-clause .ensures) in
     within-propagable _ _ _ _ _ _ (pre .0) _ (images-leave _ _ _ _ _ _ (pre .0) (pre .1 .0) _ (pre .1 .1) _ o _ (m .assume-images .ensures .1))
 
-clear-values-requires-2 : tie.Need-clear-values-requires-2
-clear-values-requires-2 c κs =
+clear-values-requires : tie.Need-clear-values-requires
+clear-values-requires c κs =
     let x = c .before .before .before in
     let m = x .before .before .before .before .before .before in
     let k = m .before .before .before .before in
@@ -49,14 +60,15 @@ same-length c = search needs
 returns : tie.Need-returns
 returns c =
     let d = c .before .before in
-    let n = d .before .before in
+    let b = d .before .before .before .before in
+    let n = b .before .before in
     let m = n .before .before .before .before in
     let k = m .before .before .before .before in
     let pre = k .before .before .before .before .before .before .before .before .pre in
-    let o = clause-state _ _ _ _ _ _ (pre .0) _ (k .assume-clause .ensures) in
-    let w = images-leave _ _ _ _ _ _ (pre .0) (pre .1 .0) _ (pre .1 .1) _ o _ (m .assume-images .ensures .1) in (
+    let o = clause-state _ _ _ _ _ _ (pre .0) _ (k .assume-clause .ensures) in (
       λ s images. passes-by-images _ _ _ _ _ _ (pre .0) (pre .1 .0) _ (pre .1 .1) _ o s images (sym (n .enum-told .given .1) ∙ m .assume-images .ensures .0),
-      d .clear-values .ensures ∙ within-cleared _ _ _ _ _ _ (pre .0) _ w,
+      d .unset-images .ensures
+          ∙ both-undone _ (pre .0 .ready .unset) _ _ _ (k .assume-clause .ensures) _ (m .assume-images .ensures .1) _ (b .unset-clause .ensures),
     )
 
 same-length-2 : tie.Need-same-length-2
@@ -75,7 +87,7 @@ returns-2 c =
       λ s images.
           passes-by-clash _ _ _ _ _ _ (pre .0) (pre .1 .0) _ (pre .1 .1) _ o s images (sym (n .enum-told2 .given .1) ∙ m .assume-images .ensures .0) _
           (m .assume-images .ensures .1) _ _ (x .propagate .ensures),
-      d .clear-values2 .ensures ∙ propagated-cleared _ _ _ _ _ _ (pre .0) _ w _ _ (x .propagate .ensures),
+      d .clear-values .ensures ∙ propagated-cleared _ _ _ _ _ _ (pre .0) _ w _ _ (x .propagate .ensures),
     )
 
 pub passes-spec : {M : Type 1} → statement M
@@ -85,10 +97,11 @@ passes-spec =
     assume-clause-requires
     assume-images-requires
     enum-told
-    clear-values-requires
+    unset-clause-requires
+    unset-images-requires
     enum-told-2
     propagate-requires
-    clear-values-requires-2
+    clear-values-requires
     same-length
     returns
     same-length-2
