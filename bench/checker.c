@@ -169,6 +169,14 @@ static int assume_images(const uint8_t *d, size_t size, uint8_t *t) {
     return 0;
 }
 
+static void unset_clause(const uint8_t *s, struct extent c, uint8_t *t) {
+    for (size_t i = c.start; i < c.start + c.size; i += 2) t[pair(s + i) & ~1u] &= 0xfc;
+}
+
+static void unset_images(const uint8_t *d, size_t size, uint8_t *t) {
+    for (const uint8_t *end = d + size; d < end; d += 2) t[image_of(t, pair(d)) & ~1u] &= 0xfc;
+}
+
 static int is_rup(const struct work *w, struct extent c) {
     int clash;
     assume_clause(w->proof.bytes, c, w->t);
@@ -178,16 +186,21 @@ static int is_rup(const struct work *w, struct extent c) {
 }
 
 static int passes(const struct work *w, struct extent c, const uint8_t *d, size_t size) {
-    int yes;
+    int clash;
     assume_clause(w->proof.bytes, c, w->t);
-    yes = assume_images(d, size, w->t) || propagate(w);
+    if (assume_images(d, size, w->t)) {
+        unset_clause(w->proof.bytes, c, w->t);
+        unset_images(d, size, w->t);
+        return 1;
+    }
+    clash = propagate(w);
     clear_values(w->t, w->vars);
-    return yes;
+    return clash;
 }
 
 static int trivialises(const struct work *w, struct extent c) {
     int yes = assume_images(w->proof.bytes + c.start, c.size, w->t);
-    clear_values(w->t, w->vars);
+    unset_images(w->proof.bytes + c.start, c.size, w->t);
     return yes;
 }
 

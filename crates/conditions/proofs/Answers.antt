@@ -17,7 +17,7 @@ use Rattle.table.proofs.Kept.{kept-trans, cleared}
 use Rattle.loading.specs.declared.Assumed.the-variants as assumed-cases
 use Rattle.loading.specs.Loading.{Storable, assumed, imaged, Inward, Images, Decides}
 use Rattle.loading.proofs.Trivial.{codes-storable}
-use Rattle.loading.proofs.Opposed.{Within, within-back, Opposes, clause-opposed, imaged-within, images-pass, images-opposed, images-not-opposed, images-not-trivial, opposes-loaded}
+use Rattle.loading.proofs.Opposed.{Within, Opposes, clause-opposed, imaged-within, images-pass, images-opposed, images-not-opposed, images-not-trivial, opposes-loaded}
 use Rattle.sweep.specs.declared.Propagation.{Propagation}
 use Rattle.sweep.specs.Swept.{stateOf}
 use Rattle.propagation.specs.Propagated.{begun, Propagable, Propagated}
@@ -47,9 +47,6 @@ module _ (f p : File) (ws : List ℕ) (C : Clause) (vars : ℕ) (t : List ℕ) (
     pub within-propagable : Propagable f p ws u
     within-propagable =
         propagable vars f p ws u (asked .ready .small) (asked .valid) (asked .numbers) (omega (arith, w .kept .long, asked .ready .long))
-
-    pub within-cleared : clearValues vars u ≡ t
-    within-cleared = within-back vars t u (asked .ready .unset) w
 
     pub propagated-cleared : (u′ : List ℕ) (r : Propagation) → Propagated f p ws u u′ r → clearValues vars u′ ≡ t
     propagated-cleared u′ r x =

@@ -15,10 +15,10 @@ use Rattle.paper.proofs.Lists.{complement-twice, complement-half, complement-in
 use Rattle.paper.proofs.Valid.{Codes, Apart}
 use Rattle.paper.proofs.Values.{true-at, never-both, put-out, put-in, put-keep}
 use Rattle.paper.proofs.Propagation.{Fits, Loaded}
-use Rattle.table.specs.Table.{Kept, valueAt, imageOf, values, clearValues}
+use Rattle.table.specs.Table.{Kept, valueAt, imageOf, values}
 use Rattle.table.proofs.Laws.{value-same, value-other}
 use Rattle.table.proofs.Values.{values-length, values-at, is-true-values, put-values}
-use Rattle.table.proofs.Kept.{kept-refl, kept-setValue, kept-image-of, cleared}
+use Rattle.table.proofs.Kept.{kept-refl, kept-setValue, kept-image-of}
 use Rattle.loading.specs.declared.Assumed.{Assumed}
 use Rattle.loading.specs.declared.Assumed.the-variants.{Passes, Open}
 use Rattle.loading.specs.Loading.{trueAt, makeTrue, assumed, Outcome, imaged, Unset, Inward}
@@ -98,10 +98,6 @@ within-put vars t₀ t a low high long w =
         let q = value-other t (a / 2) (suc (a % 2)) v n in
         let k = w .small v in
         omega arith
-
--- clearing the values brings t₀ back, if it had none
-pub within-back : (vars : ℕ) (t₀ t : List ℕ) → Unset t₀ → Within vars t₀ t → clearValues vars t ≡ t₀
-within-back vars t₀ t unset w = cleared vars (w .kept) unset (w .beyond)
 
 -- 3. The literals of B are false, and no others.
 pub record Opposes (vars : ℕ) (t₀ t : List ℕ) (B : Clause) : Type 0 where

@@ -1,4 +1,4 @@
--- The answer of `trivialises`, and the table after it.
+-- The answer of `trivialises`.
 -- Assumes nothing.
 use Prim.Native.Nat.{ℕ, _+_, _*_, _≤_, _<_}
 use mathlib.Core.Path.{_≡_, sym}
@@ -11,10 +11,10 @@ use Rattle.paper.specs.Atoms.{complement, _∈_, Clause, Witness}
 use Rattle.paper.specs.Conditions.{image, Trivialises, under}
 use Rattle.paper.proofs.Valid.{Codes}
 use Rattle.paper.proofs.Judging.{Atoms, image-range}
-use Rattle.table.specs.Table.{imageOf, clearValues}
+use Rattle.table.specs.Table.{imageOf}
 use Rattle.loading.specs.declared.Assumed.the-variants.{Passes, Open}
 use Rattle.loading.specs.Loading.{Storable, imaged, Ready, Inward, Images, Decides}
-use Rattle.loading.proofs.Opposed.{opposes-start, within-start, within-back, imaged-within, images-pass, images-not-trivial}
+use Rattle.loading.proofs.Opposed.{opposes-start, images-pass, images-not-trivial}
 
 -- codes of the variables fit the table
 pub codes-storable : (vars : ℕ) (C : Clause) → vars ≤ 4095 → Codes vars C → Storable C
@@ -28,9 +28,6 @@ module _ (vars : ℕ) (t : List ℕ) (ready : Ready vars t) (inward : Inward var
       let h = ready .small in
       let k = ready .long in
       omega arith
-
-  pub trivial-back : clearValues vars (imaged t D .table) ≡ t
-  trivial-back = within-back vars t (imaged t D .table) (ready .unset) (imaged-within vars t long inward D codes t (within-start vars t (ready .unset)))
 
   module _ (s : Witness) (images : Images t s) where
     near : (l : ℕ) → 2 ≤ l → l ≤ 2 * vars + 1 → imageOf t l ≡ image s l

@@ -95,10 +95,14 @@ module _ (t₀ : List ℕ) where
 
   -- 3. Both undone bring a table with no value back.
   module _ (unset : Unset t₀) (D : Clause) where
-    pub images-undone : unsetImages (imaged t₀ D .table) D ≡ t₀
-    images-undone =
+    images-back : unsetImages (imaged t₀ D .table) D ≡ t₀
+    images-back =
         among-none unset (unsetImages (imaged t₀ D .table) D)
         (among-unset-images D (imaged t₀ D .table) (among-imaged (map target D) D (λ l m. map-in target m) t₀ (among-start unset (map target D))))
+
+    -- the tables in turn
+    pub images-undone : (u : List ℕ) → u ≡ imaged t₀ D .table → unsetImages u D ≡ t₀
+    images-undone u e = ap (λ (x : List ℕ). unsetImages x D) e ∙ images-back
 
     module _ (C : Clause) where
       abbrev names : List ℕ
@@ -117,7 +121,6 @@ module _ (t₀ : List ℕ) where
           among-none unset (unsetImages (unsetClause left C) D)
           (among-unset-images D (unsetClause left C) (among-unset-clause (map target D) C left among-left))
 
-      -- the tables in turn
       pub both-undone : (u : List ℕ) → u ≡ assumed t₀ C → (v : List ℕ) → v ≡ imaged u D .table → (w : List ℕ) → w ≡ unsetClause v C
           → unsetImages w D ≡ t₀
       both-undone u e v f w g =

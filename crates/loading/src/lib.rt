@@ -1,5 +1,5 @@
 // Literals assumed in the table of the variables: the complements of a new clause's literals, and those of the images of
-// another clause's literals, which finds on the way whether the witness trivialises that clause.
+// another clause's literals, which finds on the way whether the witness trivialises that clause; and their variables unset again.
 ghost use mathlib.Core.Path.{_≡_};
 ghost use Prim.Native.Nat.{_<_, _≤_};
 ghost use lib.ListN.{length};
@@ -82,14 +82,14 @@ pub fn unset_images(clause: &[u8], t: &mut [u8])
     }
 }
 
-// Whether the witness whose images the table holds trivialises the clause.
+// Whether the witness whose images the table holds trivialises the clause. Only its contract needs vars.
 pub fn trivialises(clause: &[u8], vars: usize, t: &mut [u8]) -> bool
     requires { ⌜ Ready vars (now t) × (Inward vars (now t) × Codes vars (codes (now clause))) ⌝ }
     ensures answer { λ r. ⌜ ((s : Witness) → Images (now (t .entry)) s → Decides r (Trivialises s (codes (now (clause .entry))))) ⌝ }
     ensures table { λ r. ⌜ now (t .exit) ≡ now (t .entry) ⌝ }
 {
     let r = assume_images(clause, t);
-    table::clear_values(t, vars);
+    unset_images(clause, t);
     match r {
         Assumed::Passes => true,
         Assumed::Open => false,

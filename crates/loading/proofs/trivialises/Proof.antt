@@ -1,8 +1,8 @@
 -- `loading::trivialises` meets its contract. Assumes nothing.
-use mathlib.Core.Path.{sym, ap, _∙_}
+use mathlib.Core.Path.{sym, _∙_}
 use borrow.Author.Needs.{needs}
-use Rattle.table.specs.Table.{clearValues}
-use Rattle.loading.proofs.Trivial.{codes-storable, trivial-back, trivial-yes, trivial-no}
+use Rattle.loading.proofs.Trivial.{codes-storable, trivial-yes, trivial-no}
+use Rattle.loading.proofs.Undone.{images-undone}
 use Rattle.loading.proofs.trivialises.Statement.{statement}
 use Rattle.loading.proofs.trivialises.Tie as tie
 
@@ -11,8 +11,12 @@ assume-images-requires c κs =
     let p = c .before .before .before .pre in
     (p .0 .long, codes-storable _ _ (p .0 .small) (p .1 .1))
 
-clear-values-requires : tie.Need-clear-values-requires
-clear-values-requires c κs = search needs
+unset-images-requires : tie.Need-unset-images-requires
+unset-images-requires c κs =
+    let k = c .before .before .before in
+    let p = k .before .before .before .before .pre in
+    let long = p .0 .long in
+    (search needs, codes-storable _ _ (p .0 .small) (p .1 .1))
 
 enum-told : tie.Need-enum-told
 enum-told c = search needs
@@ -30,7 +34,7 @@ returns c =
     let a = k .before .before .before .before in
     let p = a .pre in (
       λ s images. trivial-yes _ _ (p .0) (p .1 .0) _ (p .1 .1) s images (sym (c .enum-told .given .1) ∙ k .assume-images .ensures .0),
-      d .clear-values .ensures ∙ ap (clearValues (a .args .vars)) (k .assume-images .ensures .1) ∙ trivial-back _ _ (p .0) (p .1 .0) _ (p .1 .1),
+      d .unset-images .ensures ∙ images-undone _ (p .0 .unset) _ _ (k .assume-images .ensures .1),
     )
 
 same-length-2 : tie.Need-same-length-2
@@ -43,7 +47,7 @@ returns-2 c =
     let a = k .before .before .before .before in
     let p = a .pre in (
       λ s images. trivial-no _ _ (p .0) (p .1 .0) _ (p .1 .1) s images (sym (c .enum-told2 .given .1) ∙ k .assume-images .ensures .0),
-      d .clear-values .ensures ∙ ap (clearValues (a .args .vars)) (k .assume-images .ensures .1) ∙ trivial-back _ _ (p .0) (p .1 .0) _ (p .1 .1),
+      d .unset-images .ensures ∙ images-undone _ (p .0 .unset) _ _ (k .assume-images .ensures .1),
     )
 
 pub trivialises-spec : {M : Type 1} → statement M
@@ -51,7 +55,7 @@ trivialises-spec =
     tie.close
     (tie.spec
     assume-images-requires
-    clear-values-requires
+    unset-images-requires
     enum-told
     enum-told-2
     same-length
