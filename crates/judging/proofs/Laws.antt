@@ -22,7 +22,6 @@ use Rattle.paper.specs.Answers.{Outcome, taken, Judged, deleted}
 use Rattle.paper.proofs.Lists.{Distinct, eqb-same, eqb-other, leb-within}
 use Rattle.paper.proofs.Valid.{Codes, Apart, Mapping, Listed}
 use Rattle.paper.proofs.Reading.{Then, Ranged, check-clause-then, check-mappings-then, no-two-then, check-numbers-then}
-use Rattle.paper.proofs.Judging.{image-range}
 use Rattle.paper.proofs.Scan.{length-payload}
 use Rattle.lookup.specs.Clause.{proofWord, ClauseTable}
 use Rattle.lookup.specs.Live.{live}
@@ -44,6 +43,7 @@ use Rattle.steps.proofs.Fields.{Lie, lie}
 use Rattle.steps.proofs.Numbers.{removed-length, listed-used, after-removing, after-adding}
 use Rattle.steps.proofs.Step.{clause-of, witness-of, numbers-of, fields-refuse, clause-refuses, mappings-refuse, twice-refuses, numbers-refuse, used-up, new-read, delete-read, delete-tag}
 use Rattle.loading.specs.Loading as loading
+use Rattle.loading.proofs.Trivial.{images-inward}
 use Rattle.judging.specs.declared.Judgement.{Judgement}
 use Rattle.judging.specs.declared.Judgement.the-variants.{Passed, Stopped}
 use Rattle.judging.specs.declared.StepAnswer.{StepAnswer}
@@ -249,7 +249,7 @@ module _ {f p : File} {at vars next : ℕ} {words t : List ℕ} {x : Fields} (l 
           listed = rw (used, en) listed;
           none-listed = λ b. rw en (no-codes p (x .numbers) (i .no-numbers b));
           table = l .table;
-          inward = λ k low high. rw (l .images k low (omega (arith, l .table .small))) (image-range vars s k (mapping .atoms) high);
+          inward = images-inward vars t s (l .table .small) (l .images) (mapping .atoms);
         }
 
     pub new-judged : getD p at 0 ≢ 0x14 → next < 16384 → (clause numbers : List ℕ) → clause ≡ payload p (x .clause) → numbers ≡ payload p (x .numbers)

@@ -1,20 +1,13 @@
 // Literals assumed in the table of the variables: the complements of a new clause's literals, and those of the images of
 // another clause's literals, which finds on the way whether the witness trivialises that clause; and their variables unset again.
 ghost use mathlib.Core.Path.{_≡_};
-ghost use Prim.Native.Nat.{_<_, _≤_};
+ghost use Prim.Native.Nat.{_≤_};
 ghost use lib.ListN.{length};
-ghost use Rattle.paper.specs.Atoms.{complement, Witness};
+ghost use Rattle.paper.specs.Atoms.{Witness};
 ghost use Rattle.paper.specs.Files.{codes};
 ghost use Rattle.paper.specs.Conditions.{Trivialises};
 ghost use Rattle.paper.proofs.Valid.{Codes};
 ghost use Rattle.loading.specs.Loading.{Storable, assumed, imaged, unsetClause, unsetImages, Ready, Inward, Images, Decides};
-
-fn opposite(l: usize) -> usize
-    requires { ⌜ l < 8192 ⌝ }
-    ensures { λ r. ⌜ (r ≡ complement l) × (r < 8192) ⌝ }
-{
-    l + 1 - 2 * (l % 2)
-}
 
 // Makes the complement of each literal of the clause true.
 pub fn assume_clause(clause: &[u8], t: &mut [u8])
@@ -23,7 +16,7 @@ pub fn assume_clause(clause: &[u8], t: &mut [u8])
 {
     let mut i: usize = 0;
     while i + 1 < clause.len() {
-        table::make_true(t, opposite(field::pair_at(clause, i)));
+        table::make_true(t, table::complement(field::pair_at(clause, i)));
         i += 2;
     }
 }
@@ -50,7 +43,7 @@ pub fn assume_images(clause: &[u8], t: &mut [u8]) -> Assumed
             if table::is_true(t, a) {
                 return Assumed::Passes;
             }
-            table::make_true(t, opposite(a));
+            table::make_true(t, table::complement(a));
         }
         i += 2;
     }

@@ -4,6 +4,7 @@ ghost use mathlib.Core.Path.{_≡_};
 ghost use Prim.Native.Nat.{suc, _/_, _%_, _<_, _≤_};
 ghost use lib.Dec.{eqb};
 ghost use lib.ListN.{length};
+ghost use Rattle.paper.specs.Atoms.{complement};
 ghost use Rattle.table.specs.Table.{valueAt, mappedAt, imageAt, imageOf, setValue, setImage, clearImage, clearValues};
 
 fn wide(x: u8) -> usize
@@ -64,6 +65,13 @@ pub fn clear_image(t: &mut [u8], v: usize)
     t[v * 2 + 1] = 0;
 }
 
+pub fn complement(code: usize) -> usize
+    requires { ⌜ code < 8192 ⌝ }
+    ensures { λ r. ⌜ (r ≡ complement code) × (r < 8192) ⌝ }
+{
+    code + 1 - 2 * (code % 2)
+}
+
 // The image of a literal: the complement of its variable's image where the literal is a complement.
 pub fn image_of(t: &[u8], code: usize) -> usize
     requires { ⌜ (code < 8192) × (8192 ≤ length (now t)) ⌝ }
@@ -73,7 +81,7 @@ pub fn image_of(t: &[u8], code: usize) -> usize
     if code % 2 == 0 {
         return x;
     }
-    x + 1 - 2 * (x % 2)
+    complement(x)
 }
 
 // The literal is true.

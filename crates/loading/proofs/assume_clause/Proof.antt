@@ -27,8 +27,8 @@ add-loop c = search needs
 pair-at-requires : tie.Need-pair-at-requires Inv-loop μ-loop
 pair-at-requires c κs = search needs
 
-opposite-requires : tie.Need-opposite-requires Inv-loop μ-loop
-opposite-requires c κs =
+complement-requires : tie.Need-complement-requires Inv-loop μ-loop
+complement-requires c κs =
     let l = c .before .before in
     let h = going-here assumed _ _ _ _ (l .before .loop .inv .1) (l .loop-test .taken) in
     omega (arith, c .pair-at .ensures .0)
@@ -36,7 +36,7 @@ opposite-requires c κs =
 make-true-requires : tie.Need-make-true-requires Inv-loop μ-loop
 make-true-requires c κs =
     let k = c .before .before .before .before .loop .inv .1 .long in
-    (omega (arith, c .opposite .ensures .1), omega arith)
+    (omega (arith, c .complement .ensures .1), omega arith)
 
 add-i : tie.Need-add-i Inv-loop μ-loop
 add-i c = search needs
@@ -50,7 +50,7 @@ loop-again c =
     let p = d .before .before in
     let l = p .before .before .before in
     let a = l .before .before .before .args in
-    let q = d .make-true .ensures ∙ ap (makeTrue (l .loop .t)) (d .before .opposite .ensures .0 ∙ ap complement (p .pair-at .ensures .0)) in
+    let q = d .make-true .ensures ∙ ap (makeTrue (l .loop .t)) (d .before .complement .ensures .0 ∙ ap complement (p .pair-at .ensures .0)) in
     let more = codes (drop (l .loop .i + 2) (a .clause .now)) in (
       omega arith,
       going-next assumed _ _ _ _ (l .loop .inv .1) (p .before .before .loop-test .taken) _ (d .make-true .kept .0)
@@ -72,7 +72,7 @@ assume-clause-spec =
     loop-holds
     add-loop
     pair-at-requires
-    opposite-requires
+    complement-requires
     make-true-requires
     add-i
     loop-less

@@ -61,13 +61,13 @@ returns-2 c =
     let q = sym (c .before .is-true .ensures) ∙ c .if3 .taken in
     both-halves _ (image-already _ _ _ _ (l .before .loop .inv .1) (l .loop-test .taken) _ e (n .before .if1 .left) (n .if2 .taken) q)
 
-opposite-requires : tie.Need-opposite-requires Inv-loop μ-loop
-opposite-requires c κs = search needs
+complement-requires : tie.Need-complement-requires Inv-loop μ-loop
+complement-requires c κs = search needs
 
 make-true-requires : tie.Need-make-true-requires Inv-loop μ-loop
 make-true-requires c κs =
     let k = c .before .before .before .before .before .before .before .before .before .before .before .loop .inv .1 .long in
-    (omega (arith, c .opposite .ensures .1), omega arith)
+    (omega (arith, c .complement .ensures .1), omega arith)
 
 add-i : tie.Need-add-i Inv-loop μ-loop
 add-i c = omega arith
@@ -114,7 +114,7 @@ assume-images-spec =
     is-true-requires
     same-length-2
     returns-2
-    opposite-requires
+    complement-requires
     make-true-requires
     add-i
     loop-less

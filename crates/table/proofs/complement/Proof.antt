@@ -1,8 +1,8 @@
--- `loading::opposite` meets its contract. Assumes nothing.
+-- `table::complement` meets its contract. Assumes nothing.
 use borrow.Author.Needs.{needs}
 use Rattle.paper.specs.Atoms.{complement}
-use Rattle.loading.proofs.opposite.Statement.{statement}
-use Rattle.loading.proofs.opposite.Tie as tie
+use Rattle.table.proofs.complement.Statement.{statement}
+use Rattle.table.proofs.complement.Tie as tie
 
 add-result : tie.Need-add-result
 add-result c = search needs
@@ -17,5 +17,5 @@ returns : tie.Need-returns
 unfolding complement
 returns c = search needs
 
-pub opposite-spec : {M : Type 1} → statement M
-opposite-spec = tie.close (tie.spec add-result mul-result sub-result returns)
+pub complement-spec : {M : Type 1} → statement M
+complement-spec = tie.close (tie.spec add-result mul-result sub-result returns)
