@@ -33,7 +33,9 @@ unset-images-requires c κs =
     let k = m .before .before .before .before in
     let pre = k .before .before .before .before .before .before .before .before .pre in
     let long = pre .0 .ready .long in
-    (search needs, images-fit _ _ _ _ _ _ (pre .0) (pre .1 .0) _ (pre .1 .1) _ (clause-state _ _ _ _ _ _ (pre .0) _ (k .assume-clause .ensures)) .1)
+    let clause = clause-fits _ _ _ _ _ _ (pre .0) .1 in
+    let images = images-fit _ _ _ _ _ _ (pre .0) (pre .1 .0) _ (pre .1 .1) _ (clause-state _ _ _ _ _ _ (pre .0) _ (k .assume-clause .ensures)) .1 in
+    search needs
 
 enum-told-2 : tie.Need-enum-told-2
 enum-told-2 c = search needs
