@@ -1,115 +1,149 @@
--- A turn of each of the two loops of a sweep: at a place of a clause's bytes, and at a clause number.
+-- A turn of each of the loops of a sweep: at a place of a clause's bytes, and at a clause number.
 -- Assumes nothing.
-use Prim.Native.Nat.{ℕ, zero, suc, _+_, _*_, _-_, _%_, _/_, _≤_, _<_}
+use Prim.Native.Nat.{ℕ, zero, suc, _+_, _*_, _%_, _/_, _≤_, _<_}
 use mathlib.Core.Path.{_≡_, refl, sym, ap, _∙_}
 use mathlib.Core.Logic.{_≢_}
-use mathlib.Core.Bool.{Bool, true, false}
-use mathlib.Core.List.{List}
+use mathlib.Core.Bool.{Bool, true, false, true≢false, false≢true}
+use mathlib.Core.List.{List, [], _∷_}
 use native.Mathlib.Omega.{arith}
 use native.Mathlib.Numerals.{add-one}
+use lib.Dec.{eqb}
 use lib.ListN.{length, getD, drop}
 use Rattle.paper.specs.Atoms.{Clause, Formula, Live}
 use Rattle.paper.specs.Files.{File, codes, two}
-use Rattle.paper.specs.Sweeps.{is-true, not-false, State, visit, visits, sweep}
+use Rattle.paper.specs.Sweeps.{not-false, State, visit, visits, sweep}
+use Rattle.paper.proofs.Lists.{eqb-yes, eqb-no, eqb-same, eqb-other}
 use Rattle.paper.proofs.Valid.{Codes}
-use Rattle.paper.proofs.Propagation.{clashing, setting, visits-end, visits-clashed, visits-next, sweep-visits}
-use Rattle.paper.proofs.Scan.{scan, scanned-none, scanned-set, scanned-early, not-true-by-value, codes-end, next-code, step-now, step-later, step-false, step-not-false, step-true, scan-end}
+use Rattle.paper.proofs.Propagation.{clashing, setting, visit-none, visits-end, visits-clashed, visits-next, sweep-visits}
+use Rattle.paper.proofs.Scan.{true-by-value, not-true-by-value, not-false-none, visit-first-true, visit-first-alone, visit-second, codes-end, next-code, step-now, step-later, step-false, step-not-false}
 use Rattle.table.specs.Table.{values, valueAt, setValue, Kept}
 use Rattle.table.proofs.Laws.{value-other}
 use Rattle.table.proofs.Values.{values-at, put-values}
 use Rattle.table.proofs.Kept.{kept-refl, kept-setValue}
-use Rattle.lookup.specs.Clause.{clauseBytes}
+use Rattle.lookup.specs.Clause.{Entered, clauseBytes, Stands, onward, ClauseTable}
 use Rattle.lookup.specs.Live.{live-from, live}
-use Rattle.lookup.proofs.Live.{live-skip, live-next, live-end, live-start, live-in}
+use Rattle.lookup.proofs.Clause.{clause-even}
+use Rattle.lookup.proofs.Live.{live-next, live-end, live-start, live-in}
+use Rattle.lookup.proofs.Table.{onward-from, onward-within, live-onward}
 use Rattle.sweep.specs.declared.Propagation.{Propagation}
-use Rattle.sweep.specs.Swept.{Swept}
+use Rattle.sweep.specs.Swept.{Literals, allFalse, Swept}
 
 -- the state of a propagation that has not clashed
 abbrev pub going : ℕ → List ℕ → ℕ → ℕ → State
 going vars t literals sweeps = record { values = values vars t; literals = literals; sweeps = sweeps; clash = false }
 
--- 1. The loop over one clause's bytes c, under the table t.
--- how many literals that are not false have been passed, where u is the one of them, and 0 where there is none
-unfoldable pub some : ℕ → ℕ
-some zero = 0
-some (suc u) = 1
+-- 1. The loops over one clause's bytes c, under the table t.
+value-small : (t : List ℕ) (v : ℕ) → valueAt t v < 4
+unfolding valueAt
+value-small t v = omega arith
 
-none-passed : (u : ℕ) → u ≡ 0 → some u ≡ 0
-unfolding some
-none-passed zero e = refl
-none-passed (suc u) e = absurd (omega arith)
+pub value-less : (t : List ℕ) (v x : ℕ) → x ≡ valueAt t v → x < 4
+value-less t v x e = omega (arith, value-small t v)
 
-one-passed : (u : ℕ) → u ≢ 0 → some u ≡ 1
-unfolding some
-one-passed zero ne = absurd (ne refl)
-one-passed (suc u) ne = refl
+-- one test of a value for neither 1 nor 2
+pub one-test : (x : ℕ) → x < 4 → (eqb ((x + 1) / 2 % 2) 0 ≡ true → (x ≢ 1) × (x ≢ 2)) × (eqb ((x + 1) / 2 % 2) 0 ≡ false → (1 ≤ x) × (x ≤ 2))
+one-test zero h = (λ e. (omega arith, omega arith), λ e. absurd (true≢false e))
+one-test (suc zero) h = (λ e. absurd (false≢true e), λ e. (omega arith, omega arith))
+one-test (suc (suc zero)) h = (λ e. absurd (false≢true e), λ e. (omega arith, omega arith))
+one-test (suc (suc (suc zero))) h = (λ e. (omega arith, omega arith), λ e. absurd (true≢false e))
+one-test (suc (suc (suc (suc x)))) h = absurd (omega arith)
 
--- from the place i on, u the unset literal of those passed
-pub record Scanning (vars : ℕ) (t c : List ℕ) (i u : ℕ) : Type 0 where
-  pub within : i ≤ length c
-  pub range : Codes vars (codes (drop i c))
-  pub unset : u ≢ 0 → (2 ≤ u) × (u ≤ 2 * vars + 1) × (is-true (values vars t) u ≡ false)
-  pub scanned : scan (values vars t) (some u) u (codes (drop i c)) ≡ scan (values vars t) 0 0 (codes c)
+-- the literals r that are not false: none, or one at least
+none-left-of : (r : Clause) → r ≡ [] → true ≡ eqb (length r) 0
+none-left-of r e = sym (eqb-same (length r) 0 (ap length e))
 
-pub scan-start : (vars : ℕ) (t c : List ℕ) → Codes vars (codes c) → Scanning vars t c 0 0
-unfolding some
-scan-start vars t c range = record { within = omega arith; range = range; unset = λ ne. absurd (ne refl); scanned = refl }
+one-left-of : (l : ℕ) (r q : Clause) → r ≡ l ∷ q → false ≡ eqb (length r) 0
+one-left-of l r q e = sym (eqb-other (length r) 0 (omega (arith, ap length e)))
 
-module _ {vars : ℕ} {t c : List ℕ} {i u : ℕ} (s : Scanning vars t c i u) where
+-- at the place i, the literals from the start a on that are passed are all false
+pub record Passed (vars : ℕ) (t c : List ℕ) (a i : ℕ) : Type 0 where
+  pub rest : Literals vars c i
+  pub same : not-false (values vars t) (codes (drop a c)) ≡ not-false (values vars t) (codes (drop i c))
+
+pub passed-start : {vars : ℕ} (t : List ℕ) {c : List ℕ} {a : ℕ} → Literals vars c a → Passed vars t c a a
+passed-start t s = record { rest = s; same = refl }
+
+module _ {vars : ℕ} {t c : List ℕ} {a i : ℕ} (s : Passed vars t c a i) where
+  pub both-bytes : i < length c → i + 1 < length c
+  both-bytes h = let w = s .rest .whole in omega arith
+
   -- a literal l at the place, and the value x of its variable
-  module _ {l : ℕ} (h : i + 1 < length c) (el : l ≡ two c i) where
+  module _ {l : ℕ} (h : i < length c) (el : l ≡ two c i) where
+    next : codes (drop i c) ≡ l ∷ codes (drop (i + 2) c)
+    next = next-code c i l (both-bytes h) el
+
     pub code-range : (2 ≤ l) × (l ≤ 2 * vars + 1)
-    code-range = step-now l (next-code c i l h el) {P = λ k. (2 ≤ k) × (k ≤ 2 * vars + 1)} (s .range)
+    code-range = step-now l next {P = λ k. (2 ≤ k) × (k ≤ 2 * vars + 1)} (s .rest .range)
+
+    pub literals-next : Literals vars c (i + 2)
+    literals-next =
+        let w = s .rest .whole in
+        let b = both-bytes h in
+        record {
+          within = omega arith;
+          whole = omega arith;
+          range = step-later l next {P = λ k. (2 ≤ k) × (k ≤ 2 * vars + 1)} (s .rest .range);
+        }
 
     module _ {x : ℕ} (ex : x ≡ valueAt t (l / 2)) where
       value-of : x ≡ getD (values vars t) (l / 2) 0
       value-of = let r = code-range in let b : l / 2 ≤ vars = omega arith in ex ∙ sym (values-at vars t b)
 
-      pub scan-false : x + l % 2 ≡ 2 → Scanning vars t c (i + 2) u
-      scan-false e =
+      -- set, and not true
+      pub passed-false : (1 ≤ x) × (x ≤ 2) → x ≢ l % 2 + 1 → Passed vars t c a (i + 2)
+      passed-false set ne =
+          let e : x + l % 2 ≡ 2 = omega arith in
           record {
-            within = omega arith;
-            range = step-later l (next-code c i l h el) {P = λ k. (2 ≤ k) × (k ≤ 2 * vars + 1)} (s .range);
-            unset = s .unset;
-            scanned = step-false l (next-code c i l h el) (values vars t) (some u) u x _ value-of (s .scanned) e;
+            rest = literals-next;
+            same = s .same ∙ step-false l next (values vars t) x value-of e;
           }
 
-      pub scan-first : x ≢ l % 2 + 1 → x + l % 2 ≢ 2 → u ≡ 0 → Scanning vars t c (i + 2) l
-      scan-first ne e z =
-          record {
-            within = omega arith;
-            range = step-later l (next-code c i l h el) {P = λ k. (2 ≤ k) × (k ≤ 2 * vars + 1)} (s .range);
-            unset = λ _. (code-range .0, code-range .1, not-true-by-value (values vars t) l (λ q. ne (value-of ∙ q)));
-            scanned =
-                let r = code-range in
-                let one : some l ≡ some u + 1 = one-passed l (omega arith) ∙ ap (λ (n : ℕ). n + 1) (sym (none-passed u z)) in
-                rw one (step-not-false l (next-code c i l h el) (values vars t) (some u) u x _ value-of (s .scanned) e);
-          }
+      first-left : x + l % 2 ≢ 2 → not-false (values vars t) (codes (drop a c)) ≡ l ∷ not-false (values vars t) (codes (drop (i + 2) c))
+      first-left ne = s .same ∙ step-not-false l next (values vars t) x value-of ne
 
-      -- a true literal, or a second one that is unset: the clause changes nothing
-      module _ (literals sweeps : ℕ) where
-        pub scan-true : x ≡ l % 2 + 1 → visit (not-false (values vars t) (codes c)) (going vars t literals sweeps) ≡ going vars t literals sweeps
-        scan-true e =
-            step-true l (next-code c i l h el) (going vars t literals sweeps) (codes c) (some u) u x value-of (s .scanned) e
+      pub unset-left : (x ≢ 1) × (x ≢ 2) → false ≡ allFalse vars t c a
+      unset-left ne = one-left-of l _ _ (first-left (omega arith))
 
-        pub scan-second : x + l % 2 ≢ 2 → u ≢ 0
-            → visit (not-false (values vars t) (codes c)) (going vars t literals sweeps) ≡ going vars t literals sweeps
-        scan-second e ne =
-            scanned-early (going vars t literals sweeps) (codes c) (codes (drop (i + 2) c)) (some u + 1) l
-            (step-not-false l (next-code c i l h el) (values vars t) (some u) u x _ value-of (s .scanned) e)
-            (omega (arith, one-passed u ne))
+      pub true-left : x ≡ l % 2 + 1 → false ≡ allFalse vars t c a
+      true-left e = one-left-of l _ _ (first-left (omega arith))
 
   -- no literal is left
-  module _ (literals sweeps : ℕ) (h : length c - i < 2) where
-    ended : (some u ≡ (scan (values vars t) 0 0 (codes c)) .0) × (u ≡ (scan (values vars t) 0 0 (codes c)) .1)
-    ended = scan-end (values vars t) (some u) u (codes (drop i c)) _ (codes-end c i (omega arith)) (s .scanned)
+  module _ (h : length c ≤ i) where
+    none-left : not-false (values vars t) (codes (drop a c)) ≡ []
+    none-left = s .same ∙ not-false-none (values vars t) (codes (drop i c)) (codes-end c i (omega arith))
 
-    pub scan-none : u ≡ 0 → visit (not-false (values vars t) (codes c)) (going vars t literals sweeps) ≡ clashing (going vars t literals sweeps)
-    scan-none z = scanned-none (going vars t literals sweeps) (codes c) (some u) u (ended .0) (ended .1) (none-passed u z)
+    pub all-passed : true ≡ allFalse vars t c a
+    all-passed = none-left-of _ none-left
 
-    pub scan-one : u ≢ 0 → visit (not-false (values vars t) (codes c)) (going vars t literals sweeps) ≡ setting u (going vars t literals sweeps)
-    scan-one ne =
-        scanned-set (going vars t literals sweeps) (codes c) (some u) u (ended .0) (ended .1) (one-passed u ne) ((s .unset ne) .2)
+-- the visit to the clause, by how the loop over all its literals is left
+module _ {vars : ℕ} {t c : List ℕ} {i : ℕ} (s : Passed vars t c 0 i) (literals sweeps : ℕ) where
+  abbrev state : State
+  state = going vars t literals sweeps
+
+  abbrev visiting : State
+  visiting = visit (not-false (values vars t) (codes c)) state
+
+  pub visit-none-left : length c ≤ i → visiting ≡ clashing state
+  visit-none-left h = ap (λ (r : Clause). visit r state) (none-left s h) ∙ visit-none state
+
+  module _ {l x : ℕ} (h : i < length c) (el : l ≡ two c i) (ex : x ≡ valueAt t (l / 2)) where
+    visit-first : x + l % 2 ≢ 2 → visiting ≡ visit (l ∷ not-false (values vars t) (codes (drop (i + 2) c))) state
+    visit-first ne = ap (λ (r : Clause). visit r state) (first-left s h el ex ne)
+
+    pub visit-true-left : x ≡ l % 2 + 1 → visiting ≡ state
+    visit-true-left e =
+        visit-first (omega arith) ∙ visit-first-true l _ state (true-by-value (values vars t) l (sym (value-of s h el ex) ∙ e))
+
+    -- an unset literal, and what is found of those after it
+    module _ (ne : (x ≢ 1) × (x ≢ 2)) {b : Bool} (eb : b ≡ allFalse vars t c (i + 2)) where
+      pub visit-one-left : b ≡ true → visiting ≡ setting l state
+      visit-one-left e =
+          let other : x ≢ l % 2 + 1 = omega arith in
+          visit-first (omega arith)
+          ∙ visit-first-alone l _ state (not-true-by-value (values vars t) l (λ q. other (value-of s h el ex ∙ q))) (eqb-yes _ 0 (sym eb ∙ e))
+
+      pub visit-two-left : b ≡ false → visiting ≡ state
+      visit-two-left e = visit-first (omega arith) ∙ visit-second l _ state (eqb-no _ 0 (sym eb ∙ e))
 
 -- 2. The loop over the clause numbers, from the record x and the table t₀ on.
 abbrev pub start : ℕ → List ℕ → Propagation → State
@@ -169,23 +203,33 @@ module _ {vars : ℕ} {f p : File} {ws t₀ : List ℕ} {x : Propagation} where
         }
 
     module _ (h : k < length ws) where
-      -- no clause of that number is live
-      pub held-skip : getD ws k 0 ≡ 0 → Held vars f p ws t₀ x (k + 1) t literals clash
-      held-skip e =
-          record {
-            within = omega arith;
-            kept = held .kept;
-            beyond = held .beyond;
-            count = let c = held .count in omega arith;
-            goes-on = held .goes-on;
-            left = ap (λ (F : Formula). visits F (going vars t literals (suc (x .sweeps)))) (sym (live-skip f p ws k h e)) ∙ held .left;
-          }
+      -- no clause of that number is live: the sweep goes on at n
+      module _ (low : getD ws k 0 < 1048576) {n : ℕ} (en : n ≡ onward ws (k + 1)) where
+        pub onward-more : k < n
+        onward-more = omega (arith, onward-from ws (k + 1))
+
+        pub held-skip : ClauseTable f p (length ws) ws → Held vars f p ws t₀ x n t literals clash
+        held-skip table =
+            record {
+              within = omega (arith, onward-within ws (k + 1) table (omega arith));
+              kept = held .kept;
+              beyond = held .beyond;
+              count = let c = held .count in let m = onward-more in omega arith;
+              goes-on = held .goes-on;
+              left =
+                  rw en
+                  (ap (λ (F : Formula). visits F (going vars t literals (suc (x .sweeps)))) (sym (live-onward f p ws table k h low)) ∙ held .left);
+            }
 
       -- the clause c is
-      module _ (ne : getD ws k 0 ≢ 0) {c : List ℕ} (ec : c ≡ clauseBytes f p (getD ws k 0)) where
-        pub clause-range : ((n : ℕ) (D : Clause) → Live (live f p ws) n D → Codes vars D) → Codes vars (codes c)
-        clause-range range =
-            range k (codes c) (live-in f p ws (record { within = h; entered = ne; clause = ap codes ec }))
+      module _ (ne : Entered (getD ws k 0)) {c : List ℕ} (ec : c ≡ clauseBytes f p (getD ws k 0)) where
+        pub clause-literals : ((n : ℕ) (D : Clause) → Live (live f p ws) n D → Codes vars D) → Stands f p (getD ws k 0) → Literals vars c 0
+        clause-literals range stands =
+            record {
+              within = omega arith;
+              whole = let e = clause-even f p (getD ws k 0) stands in let q = ap (length {A = ℕ}) ec in omega arith;
+              range = range k (codes c) (live-in f p ws (record { within = h; entered = ne; clause = ap codes ec }));
+            }
 
         abbrev now : State
         now = going vars t literals (suc (x .sweeps))
