@@ -16,6 +16,7 @@ use Rattle.paper.specs.Sweeps.{Values, is-true, put, not-false, State, visit, v
 use Rattle.paper.proofs.Valid.{Codes, Valid}
 use Rattle.paper.proofs.Values.{not-false-out}
 use Rattle.paper.proofs.Propagation.{sweeping, visit-none, visit-true, visit-set, visit-more, visits-end, visits-clashed, visits-next, sweep-visits, sweeps-none, sweeps-clash, sweeps-last, sweeps-next, Loaded, sweeps-iff}
+use Rattle.lookup.specs.Clause.{ClauseTable}
 use Rattle.lookup.specs.Live.{live}
 use Rattle.table.specs.Table.{values, valueAt, Kept}
 use Rattle.table.proofs.Values.{values-at}
@@ -64,6 +65,7 @@ module _ {f p : File} {ws t₀ : List ℕ} where
             long = omega (arith, run .kept .long, asked .long);
             numbers = asked .numbers;
             codes = asked .codes;
+            table = asked .table;
             going = run .going;
             few-literals = omega arith;
             few-sweeps = omega arith;
@@ -175,9 +177,9 @@ valid-more vars top F h valid =
 
 -- valid clauses can be propagated over
 pub propagable : (vars : ℕ) (f p : File) (ws t : List ℕ) → vars ≤ 4095 → Valid vars (live f p ws) → length ws ≤ 16384 → 8192 ≤ length t
-    → Propagable f p ws t
-propagable vars f p ws t h valid numbers long =
-    record { long = long; numbers = numbers; codes = valid-more vars 4095 (live f p ws) h valid .codes }
+    → ClauseTable f p (length ws) ws → Propagable f p ws t
+propagable vars f p ws t h valid numbers long table =
+    record { long = long; numbers = numbers; codes = valid-more vars 4095 (live f p ws) h valid .codes; table = table }
 
 -- 4. What callers learn.
 -- as many sweeps as there are variables, and one more, over valid clauses
