@@ -46,7 +46,7 @@ module _ (f p : File) (ws : List ℕ) (C : Clause) (vars : ℕ) (t : List ℕ) (
   module _ (u : List ℕ) (w : Within vars t u) where
     pub within-propagable : Propagable f p ws u
     within-propagable =
-        propagable vars f p ws u (asked .ready .small) (asked .valid) (asked .numbers) (omega (arith, w .kept .long, asked .ready .long))
+        propagable vars f p ws u (asked .ready .small) (asked .valid) (asked .numbers) (omega (arith, w .kept .long, asked .ready .long)) (asked .clauses)
 
     pub propagated-cleared : (u′ : List ℕ) (r : Propagation) → Propagated f p ws u u′ r → clearValues vars u′ ≡ t
     propagated-cleared u′ r x =

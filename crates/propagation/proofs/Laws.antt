@@ -65,7 +65,7 @@ module _ {f p : File} {ws t₀ : List ℕ} where
             long = omega (arith, run .kept .long, asked .long);
             numbers = asked .numbers;
             codes = asked .codes;
-            table = asked .table;
+            clauses = asked .clauses;
             going = run .going;
             few-literals = omega arith;
             few-sweeps = omega arith;
@@ -178,8 +178,8 @@ valid-more vars top F h valid =
 -- valid clauses can be propagated over
 pub propagable : (vars : ℕ) (f p : File) (ws t : List ℕ) → vars ≤ 4095 → Valid vars (live f p ws) → length ws ≤ 16384 → 8192 ≤ length t
     → ClauseTable f p (length ws) ws → Propagable f p ws t
-propagable vars f p ws t h valid numbers long table =
-    record { long = long; numbers = numbers; codes = valid-more vars 4095 (live f p ws) h valid .codes; table = table }
+propagable vars f p ws t h valid numbers long clauses =
+    record { long = long; numbers = numbers; codes = valid-more vars 4095 (live f p ws) h valid .codes; clauses = clauses }
 
 -- 4. What callers learn.
 -- as many sweeps as there are variables, and one more, over valid clauses

@@ -23,7 +23,7 @@ pub record Propagable (f p : File) (ws t : List ℕ) : Type 0 where
   pub long : 8192 ≤ length t
   pub numbers : length ws ≤ 16384
   pub codes : (n : ℕ) (D : Clause) → Live (live f p ws) n D → Codes 4095 D
-  pub table : ClauseTable f p (length ws) ws
+  pub clauses : ClauseTable f p (length ws) ws
 
 -- The state is that of the paper's sweeps, 4,096 at most; nothing but values of the variables 0 to 4,095 has changed in the table.
 pub record Propagated (f p : File) (ws t t′ : List ℕ) (r : Propagation) : Type 0 where

@@ -34,7 +34,7 @@ pub record Sweepable (f p : File) (ws t : List ℕ) (x : Propagation) : Type 0 w
   pub long : 8192 ≤ length t
   pub numbers : length ws ≤ 16384
   pub codes : (n : ℕ) (D : Clause) → Live (live f p ws) n D → Codes 4095 D
-  pub table : ClauseTable f p (length ws) ws
+  pub clauses : ClauseTable f p (length ws) ws
   pub going : x .clash ≡ false
   pub few-literals : x .literals < 4294967296
   pub few-sweeps : x .sweeps < 4294967296

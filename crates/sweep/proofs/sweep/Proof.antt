@@ -58,7 +58,7 @@ shared-slice-read-if1 c = search needs
 clause-at-requires : tie.Need-clause-at-requires Inv-literals μ-literals Inv-clauses μ-clauses
 clause-at-requires c κs =
     let s = c .before .before .before .before .before .before .before .before in
-    (c .before .before .clauses-test .taken, (c .if1 .taken, s .pre .table .stands _ (c .if1 .taken)))
+    (c .before .before .clauses-test .taken, (c .if1 .taken, s .pre .clauses .stands _ (c .if1 .taken)))
 
 literals-holds : tie.Need-literals-holds Inv-literals μ-literals Inv-clauses μ-clauses
 literals-holds c =
@@ -66,7 +66,7 @@ literals-holds c =
     let s = o .before .before .before .before .before in
     let e = c .before .if1 .taken in
     let v = o .clauses .inv in
-    let r = clause-literals v (c .before .before .before .clauses-test .taken) e (c .clause-at .ensures) (s .pre .codes) (s .pre .table .stands _ e) in
+    let r = clause-literals v (c .before .before .before .clauses-test .taken) e (c .clause-at .ensures) (s .pre .codes) (s .pre .clauses .stands _ e) in
     (omega (arith, v .kept .long, s .pre .long), refl, refl, refl, passed-start _ r)
 
 pair-at-requires : tie.Need-pair-at-requires Inv-literals μ-literals Inv-clauses μ-clauses
@@ -180,7 +180,7 @@ clauses-again-2 : tie.Need-clauses-again-2 Inv-literals μ-literals Inv-clauses 
 clauses-again-2 c =
     let i = c .before .before .before in
     let s = i .before .before .before .before .before .before in
-    held-skip (i .before .clauses .inv) (i .clauses-test .taken) (c .before .if1 .left) (c .onward .ensures) (s .pre .table)
+    held-skip (i .before .clauses .inv) (i .clauses-test .taken) (c .before .if1 .left) (c .onward .ensures) (s .pre .clauses)
 
 -- after the loop, by its test or by the clash: the sweep's end
 done : (c : tie.Left-clauses Inv-literals μ-literals Inv-clauses μ-clauses) →
