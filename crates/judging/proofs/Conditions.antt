@@ -81,7 +81,7 @@ module _ {f p : File} {ws : List ℕ} {clause numbers : List ℕ} {vars next : �
   module _ {tag : ℕ} (n : New f p ws tag clause numbers vars next t) (u : List ℕ) (same : u ≡ t) where
     asked : Asked f p ws (codes clause) vars u
     asked =
-        rw same (record { ready = n .table; numbers = n .limit; valid = n .kept .valid; codes = n .new .codes; apart = n .new .apart })
+        rw same (record { ready = n .table; numbers = n .limit; clauses = n .clauses; valid = n .kept .valid; codes = n .new .codes; apart = n .new .apart })
 
     pub lowest-asks : Asked f p ws (codes clause) vars u × (Inward vars u × Listed (live f p ws) 0 (codes numbers))
     lowest-asks = (asked, (rw same (n .inward), n .listed))

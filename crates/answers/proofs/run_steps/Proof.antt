@@ -5,7 +5,7 @@ use borrow.Author.Needs.{needs}
 use native.Mathlib.Omega.{arith}
 use lib.ListN.{length}
 use Rattle.lookup.specs.Live.{live}
-use Rattle.answers.proofs.Run.{Going, at-start, ready, taken-further, going-on, stopped, end-refuted, end-held}
+use Rattle.answers.proofs.Run.{Going, at-start, ready, taken-further, going-on, stopped, used-table, end-refuted, end-held}
 use Rattle.answers.proofs.run_steps.Statement.{statement}
 use Rattle.answers.proofs.run_steps.Tie as tie
 use Rattle.answers.proofs.run_steps.Reads as reads
@@ -19,82 +19,73 @@ Inv-loop formula proof vars first words₀ t₀ at₀ next₀ done₀ words t at
 abbrev μ-loop : tie.MeasureT-loop
 μ-loop formula proof vars first words₀ t₀ at₀ next₀ done₀ words t at next done = length proof - at
 
--- src/lib.rt:42:5
 loop-holds : tie.Need-loop-holds Inv-loop μ-loop
 loop-holds c = at-start (c .before .before .before .before .pre)
 
--- src/lib.rt:43:15
 take-step-requires : tie.Need-take-step-requires Inv-loop μ-loop
 take-step-requires c κs = ready (c .before .before .before .loop .inv) (omega arith)
 
--- src/lib.rt:44:39
 enum-known-n : tie.Need-enum-known-n Inv-loop μ-loop
 enum-known-n c = search needs
 
--- src/lib.rt:47:17
 add-done : tie.Need-add-done Inv-loop μ-loop
 add-done c = let g = c .before .before .before .before .before .before .before .before .before .before .before .loop .inv in omega (arith, g .counted, g .place, g .now .proof-short)
 
--- src/lib.rt:42:5
 loop-less : tie.Need-loop-less Inv-loop μ-loop
 loop-less c =
     let g = c .before .before .before .before .before .before .before .before .before .before .before .loop .inv in
     let far = taken-further g (rw (c .before .n .given .1) at (c .before .before .before .before .before .before .before .take-step .ensures)) in
     omega arith
 
--- src/lib.rt:42:5
 loop-again : tie.Need-loop-again Inv-loop μ-loop
 loop-again c =
     going-on (c .before .before .before .before .before .before .before .before .before .before .before .loop .inv) (c .before .before .before .before .before .before .before .before .before .before .loop-test .taken) (rw (c .before .n .given .1) at (c .before .before .before .before .before .before .before .take-step .ensures))
 
--- src/lib.rt:49:35
 enum-known-reason : tie.Need-enum-known-reason Inv-loop μ-loop
 enum-known-reason c = search needs
 
--- src/lib.rt:52:27
-add-t21 : tie.Need-add-t21 Inv-loop μ-loop
-add-t21 c = let g = c .before .before .before .before .before .before .before .before .before .before .before .loop .inv in omega (arith, g .counted, g .place, g .now .proof-short)
+add-t22 : tie.Need-add-t22 Inv-loop μ-loop
+add-t22 c = let g = c .before .before .before .before .before .before .before .before .before .before .before .loop .inv in omega (arith, g .counted, g .place, g .now .proof-short)
 
--- src/lib.rt:50:17
 same-length : tie.Need-same-length Inv-loop μ-loop
 same-length c = search needs
 
--- src/lib.rt:50:17
 same-length-2 : tie.Need-same-length-2 Inv-loop μ-loop
 same-length-2 c = search needs
 
--- src/lib.rt:50:17
 returns : tie.Need-returns Inv-loop μ-loop
 returns c =
     stopped (c .before .before .before .before .before .before .before .before .before .before .before .loop .inv) (c .before .before .before .before .before .before .before .before .before .before .loop-test .taken) (rw (c .before .reason .given .1) at (c .before .before .before .before .before .before .before .take-step .ensures))
 
--- src/lib.rt:58:8
-has-empty-requires : tie.Need-has-empty-requires Inv-loop μ-loop
-has-empty-requires c κs = search needs
+sub-used : tie.Need-sub-used Inv-loop μ-loop
+sub-used c = search needs
 
--- src/lib.rt:59:9
+part-used-start : tie.Need-part-used-start Inv-loop μ-loop
+part-used-start c = search needs
+
+part-used-end : tie.Need-part-used-end Inv-loop μ-loop
+part-used-end c = let g = c .before .before .loop .inv in omega (arith, g .now .last, g .now .words-long)
+
+has-empty-requires : tie.Need-has-empty-requires Inv-loop μ-loop
+has-empty-requires c κs = used-table (c .before .before .before .loop .inv)
+
 same-length-3 : tie.Need-same-length-3 Inv-loop μ-loop
 same-length-3 c = search needs
 
--- src/lib.rt:59:9
 same-length-4 : tie.Need-same-length-4 Inv-loop μ-loop
 same-length-4 c = search needs
 
--- src/lib.rt:59:9
 returns-2 : tie.Need-returns-2 Inv-loop μ-loop
-returns-2 c = end-refuted (c .before .before .before .before .loop .inv) (omega arith) (c .before .has-empty .ensures) (c .if1 .taken)
+returns-2 c = end-refuted (c .before .before .before .before .before .loop .inv) (omega arith) (c .before .has-empty .ensures) (c .if1 .taken)
 
--- src/lib.rt:28:1
 same-length-5 : tie.Need-same-length-5 Inv-loop μ-loop
 same-length-5 c = search needs
 
--- src/lib.rt:28:1
 same-length-6 : tie.Need-same-length-6 Inv-loop μ-loop
 same-length-6 c = search needs
 
--- src/lib.rt:28:1
 returns-3 : tie.Need-returns-3 Inv-loop μ-loop
-returns-3 c = end-held (c .before .before .before .before .loop .inv) (omega arith) (c .before .has-empty .ensures) (c .if1 .left)
+returns-3 c = end-held (c .before .before .before .before .before .loop .inv) (omega arith) (c .before .has-empty .ensures) (c .if1 .left)
 
 pub run-steps-spec : {M : Type 1} → statement M
 run-steps-spec =
@@ -109,10 +100,13 @@ run-steps-spec =
     loop-less
     loop-again
     enum-known-reason
-    add-t21
+    add-t22
     same-length
     same-length-2
     returns
+    sub-used
+    part-used-start
+    part-used-end
     has-empty-requires
     same-length-3
     same-length-4

@@ -1,19 +1,41 @@
 -- `judging::take_step` meets its contract.
 -- Assumes nothing.
 use borrow.Author.Needs.{needs}
-use mathlib.Core.Path.{sym, _∙_}
+use Prim.Native.Nat.{_≤_}
+use mathlib.Core.Path.{_≡_, sym, ap, _∙_}
 use native.Mathlib.Omega.{arith}
+use lib.ListN.{length}
+use Rattle.paper.specs.declared.Fields.{Fields}
+use Rattle.paper.specs.Files.{File, ok}
+use Rattle.paper.specs.Refusals.{read-fields}
+use Rattle.lookup.specs.Live.{live}
 use Rattle.steps.proofs.Fields.{lie, whole, refused}
-use Rattle.judging.proofs.Laws.{fields-stop, step-stopped, deleted-done, number-free, added-done}
+use Rattle.steps.proofs.Numbers.{removed-length}
+use Rattle.steps.proofs.Step.{numbers-of}
+use Rattle.judging.specs.declared.Judgement.the-variants.{Passed}
+use Rattle.judging.specs.Step.{JudgementIs}
+use Rattle.judging.proofs.Laws.{fields-stop, step-stopped, numbers-used, deleted-done, number-free, added-done}
 use Rattle.judging.proofs.take_step.Statement.{statement}
 use Rattle.judging.proofs.take_step.Tie as tie
-use Rattle.judging.proofs.take_step.Reads as reads
-use Rattle.judging.proofs.take_step.Lts as lts
-use Rattle.judging.proofs.judge_fields.Reads as judge-fields-reads
-use Rattle.lookup.proofs.enter.Reads as enter-reads
-use Rattle.lookup.proofs.proof_word.Reads as proof-word-reads
-use Rattle.steps.proofs.read_fields.Reads as read-fields-reads
-use Rattle.steps.proofs.remove_numbers.Reads as remove-numbers-reads
+
+-- The step has passed: what was asked at the start, its fields and its judgement.
+abbrev start : tie.After-enum-told → tie.Start
+start d = d .before .before .before .before .before .before .before .before .before .before .before .before .before .before .before
+
+abbrev proof : tie.After-enum-told → File
+proof d = start d .args .proof .now
+
+abbrev fields : tie.After-enum-told → Fields
+fields d = d .before .before .before .before .before .before .before .before .x .given .0 .0
+
+read : (d : tie.After-enum-told) → read-fields (proof d) (start d .args .at) ≡ ok (fields d)
+read d =
+    let r = d .before .before .before .before .before .before .before .before in
+    whole _ _ _ (sym (r .x .given .1) ∙ r .before .before .read-fields .ensures)
+
+passed : (d : tie.After-enum-told) → let a = start d .args in
+    JudgementIs (proof d) (a .vars) (live (a .formula .now) (proof d) (a .words .now)) (a .next) (a .at) (fields d) Passed
+passed d = rw (d .enum-told .given .1) at (d .before .before .before .before .judge-fields .ensures .0)
 
 read-fields-requires : tie.Need-read-fields-requires
 read-fields-requires c κs = search needs
@@ -26,7 +48,9 @@ enum-known-x c = search needs
 
 judge-fields-requires : tie.Need-judge-fields-requires
 judge-fields-requires c κs =
-    record { ready = c .before .before .before .before .before .before .before .before .before .before .pre; fields = whole _ _ _ (sym (c .before .before .before .x .given .1) ∙ c .before .before .before .before .before .read-fields .ensures) }
+    let r = c .before .before .before in
+    let s = r .before .before .before .before .before .before .before in
+    record { ready = s .pre; fields = whole _ _ _ (sym (r .x .given .1) ∙ r .before .before .read-fields .ensures) }
 
 enum-known-reason : tie.Need-enum-known-reason
 enum-known-reason c = search needs
@@ -36,8 +60,11 @@ enum-told c = search needs
 
 remove-numbers-requires : tie.Need-remove-numbers-requires
 remove-numbers-requires c κs =
-    let i = lie _ _ _ (whole _ _ _ (sym (c .before .before .before .before .before .before .before .before .before .before .x .given .1) ∙ c .before .before .before .before .before .before .before .before .before .before .before .before .read-fields .ensures)) in
-    ?
+    let d = c .before .before in
+    let ready = start d .pre in
+    let i = lie (proof d) (start d .args .at) (fields d) (read d) in
+    let used = numbers-used ready (fields d) _ (d .before .before .before .before .judge-fields .ensures .1) (passed d) in
+    (i .numbers-within, (i .numbers-even, (omega (arith, ready .words-long), λ n q. omega (arith, used n q, ready .last, ready .words-long))))
 
 shared-slice-read-if1 : tie.Need-shared-slice-read-if1
 shared-slice-read-if1 c = search needs
@@ -50,26 +77,33 @@ same-length-2 c = search needs
 
 returns : tie.Need-returns
 returns c =
-    let fields = whole _ _ _ (sym (c .before .before .before .before .before .before .before .before .before .before .before .before .before .before .before .x .given .1) ∙ c .before .before .before .before .before .before .before .before .before .before .before .before .before .before .before .before .before .read-fields .ensures) in
-    let d = c .before .before .before .before .before .before .before .before .before .before .before .judge-fields .ensures in
-    deleted-done (c .before .before .before .before .before .before .before .before .before .before .before .before .before .before .before .before .before .before .before .before .before .before .pre) _ _ (d .1) fields _ (c .before .before .before .before .remove-numbers .ensures) (rw (c .before .before .before .before .before .before .before .enum-told .given .1) at (d .0)) (c .if1 .taken)
+    let m = c .before .before .before .before in
+    let d = m .before .before .before in
+    deleted-done (start d .pre) (fields d) _ (d .before .before .before .before .judge-fields .ensures .1) (passed d) (read d) _
+    (m .remove-numbers .ensures) (c .if1 .taken)
 
 proof-word-requires : tie.Need-proof-word-requires
 proof-word-requires c κs = search needs
 
 enter-requires : tie.Need-enter-requires
 enter-requires c κs =
-    let r = c .before .before .before .before .before .before .before .before .before .before .before .before .before .before .before .before .before .before .before .before .before .before .before .before .pre in
-    let fields = whole _ _ _ (sym (c .before .before .before .before .before .before .before .before .before .before .before .before .before .before .before .before .before .x .given .1) ∙ c .before .before .before .before .before .before .before .before .before .before .before .before .before .before .before .before .before .before .before .read-fields .ensures) in
-    let d = c .before .before .before .before .before .before .before .before .before .before .before .before .before .judge-fields .ensures in
-    let free = number-free r _ _ (d .1) fields _ (c .before .before .before .before .before .before .remove-numbers .ensures) (rw (c .before .before .before .before .before .before .before .before .before .enum-told .given .1) at (d .0)) (c .before .before .if1 .left) in
-    omega (arith, c .before .before .before .before .before .before .remove-numbers .ensures .same-length, r .words-long)
+    let m = c .before .before .before .before .before .before in
+    let d = m .before .before .before in
+    let ready = start d .pre in
+    let free = number-free ready (fields d) _ (d .before .before .before .before .judge-fields .ensures .1) (passed d) (c .before .before .if1 .left) in
+    let long = ap length (m .remove-numbers .ensures) ∙ removed-length (numbers-of (proof d) (fields d)) (start d .args .words .now) in
+    omega (arith, long, free, ready .words-long)
 
 add-t31 : tie.Need-add-t31
-add-t31 c = omega (arith, c .before .before .before .before .before .before .before .before .before .before .before .before .before .before .before .before .before .before .before .before .before .before .before .before .before .before .before .pre .last)
+add-t31 c =
+    let d = c .before .before .before .before .before .before .before .before .before .before .before .before in
+    omega (arith, start d .pre .last)
 
 returns-2 : tie.Need-returns-2
-returns-2 c = fields-stop (c .before .before .before .before .before .before .before .before .pre) (refused _ _ _ (sym (c .before .place .given .1) ∙ c .before .before .before .read-fields .ensures))
+returns-2 c =
+    let r = c .before .before .before in
+    let s = r .before .before .before .before .before in
+    fields-stop (s .pre) (refused _ _ _ (sym (c .before .place .given .1) ∙ r .read-fields .ensures))
 
 same-length-3 : tie.Need-same-length-3
 same-length-3 c = search needs
@@ -79,8 +113,10 @@ same-length-4 c = search needs
 
 returns-3 : tie.Need-returns-3
 returns-3 c =
-    let d = c .before .before .before .before .before .judge-fields .ensures in
-    step-stopped (c .before .before .before .before .before .before .before .before .before .before .before .before .before .before .before .before .pre) (c .before .before .before .before .before .before .before .before .before .x .given .0 .0) _ (d .1) (rw (c .before .reason .given .1) at (d .0))
+    let j = c .before .before .before .before .before in
+    let r = j .before .before .before .before in
+    let s = r .before .before .before .before .before .before .before in
+    step-stopped (s .pre) (r .x .given .0 .0) _ (j .judge-fields .ensures .1) (rw (c .before .reason .given .1) at (j .judge-fields .ensures .0))
 
 same-length-5 : tie.Need-same-length-5
 same-length-5 c = search needs
@@ -90,10 +126,11 @@ same-length-6 c = search needs
 
 returns-4 : tie.Need-returns-4
 returns-4 c =
-    let fields = whole _ _ _ (sym (c .before .before .before .before .before .before .before .before .before .before .before .before .before .before .before .before .before .before .before .before .x .given .1) ∙ c .before .before .before .before .before .before .before .before .before .before .before .before .before .before .before .before .before .before .before .before .before .before .read-fields .ensures) in
-    let d = c .before .before .before .before .before .before .before .before .before .before .before .before .before .before .before .before .judge-fields .ensures in
-    added-done (c .before .before .before .before .before .before .before .before .before .before .before .before .before .before .before .before .before .before .before .before .before .before .before .before .before .before .before .pre) _ _ (d .1) fields _ (c .before .before .before .before .before .before .before .before .before .remove-numbers .ensures) (rw (c .before .before .before .before .before .before .before .before .before .before .before .before .enum-told .given .1) at (d .0)) (c .before .before .before .before .before .if1 .left) _ _
-    (c .before .before .enter .ensures) (c .before .before .before .proof-word .ensures)
+    let e = c .before .before in
+    let m = e .before .before .before .before .before .before .before in
+    let d = m .before .before .before in
+    added-done (start d .pre) (fields d) _ (d .before .before .before .before .judge-fields .ensures .1) (passed d) (read d) _
+    (m .remove-numbers .ensures) (e .before .before .before .if1 .left) _ _ (e .enter .ensures) (e .before .proof-word .ensures)
 
 pub take-step-spec : {M : Type 1} → statement M
 take-step-spec =
