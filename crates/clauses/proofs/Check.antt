@@ -10,7 +10,7 @@ use Rattle.paper.specs.declared.Reason.{Reason}
 use Rattle.paper.specs.declared.Reason.the-variants.{FormulaCode}
 use Rattle.paper.specs.declared.Extent.{Extent}
 use Rattle.paper.specs.Atoms.{_∈_}
-use Rattle.paper.specs.Files.{File, _>>_, need, payload, past, codes}
+use Rattle.paper.specs.Files.{File, ok, _>>_, need, payload, past, codes}
 use Rattle.paper.specs.Refusals.{each, no-two, between, check-clause}
 use Rattle.paper.proofs.Lists.{leb-within, leb-beyond}
 use Rattle.paper.proofs.Reading.{Then, each-then, between-yes}
@@ -34,6 +34,16 @@ InRange f e vars r = (range : Reason) → each range (between 2 (2 * vars + 1)) 
 
 abbrev pub Once : File → Extent → First → Type 0
 Once f e r = (twice : Reason) → no-two twice [] 2 (e .start) (variables (codes (payload f e))) ≡ placeSaid twice r
+
+-- "no code is out of range", as check_in_range asks for it, and as the look for one says it
+module _ (f : File) (e : Extent) (vars : ℕ) where
+  pub in-range : ((range : Reason) → each range (between 2 (2 * vars + 1)) 2 (e .start) (codes (payload f e)) ≡ ok tt) → InRange f e vars Nowhere
+  unfolding placeSaid
+  in-range q = q
+
+  pub range-fine : InRange f e vars Nowhere → (range : Reason) → each range (between 2 (2 * vars + 1)) 2 (e .start) (codes (payload f e)) ≡ ok tt
+  unfolding placeSaid
+  range-fine q = q
 
 -- and what all of it says
 abbrev pub Checked : File → Extent → ℕ → ClauseCheck → Type 0
