@@ -1,19 +1,21 @@
 -- The order of the refusals, and where a field is refused: facts that a definition with two tests exchanged would not meet.
 -- Assumes nothing.
 use Prim.Native.Nat.{ℕ, suc, _+_, _*_}
-use mathlib.Core.Path.{_≡_}
+use mathlib.Core.Path.{_≡_, refl}
 use mathlib.Core.Bool.{Bool, true, false}
 use mathlib.Core.List.{[], map}
 use native.Mathlib.Omega.{arith}
 use lib.Dec.{eqb, leb, ltb}
 use lib.ListN.{length, getD}
 use Rattle.paper.specs.declared.Reason.{Reason}
-use Rattle.paper.specs.declared.Reason.the-variants.{FormulaField, FormulaCode, FormulaTwice, ProofCode, ProofTwice}
+use Rattle.paper.specs.declared.Reason.the-variants.{FormulaField, FormulaCode, FormulaTwice, ProofCode, ProofTwice, NotTrivialised}
 use Rattle.paper.specs.declared.Extent.{Extent}
 use Rattle.paper.specs.declared.Fields.{Fields}
-use Rattle.paper.specs.Atoms.{Clause, Formula}
-use Rattle.paper.specs.Files.{File, Read, ok, bad, _>>=_, _>>_, need, two, payload, field, even, codes, mappings}
+use Rattle.paper.specs.Atoms.{Clause, Formula, Witness}
+use Rattle.paper.specs.Files.{File, Read, ok, bad, _>>=_, _>>_, need, two, payload, field, even, codes, mappings, SR-step}
+use Rattle.paper.specs.Conditions.{Trivialises}
 use Rattle.paper.specs.Refusals.{each, no-two, between, check-clause, read-clauses, read-fields, check-mappings, check-numbers, read-step}
+use Rattle.paper.specs.Answers.{Judged, stops, not-trivialised, sr-lowest}
 
 -- "the clause 9, 10, 16": a code out of range is refused first, whatever else is wrong with the clause
 pub range-first : (range twice : Reason) (vars tag : ℕ) (C : Clause) (r : Reason) (p : ℕ) → each range (between 2 (2 * vars + 1)) 2 (tag + 3) C ≡ bad r p
@@ -35,6 +37,12 @@ pub clause-first : (f : File) (vars m n at : ℕ) (e : Extent) (r : Reason) (p :
     → check-clause FormulaCode FormulaTwice vars at (codes (payload f e)) ≡ bad r p → read-clauses f vars (suc m) n at ≡ bad r p
 unfolding read-clauses need _>>=_ _>>_
 clause-first f vars m n at e r p a b c = rw (a, need, _>>_, b, _>>=_, c)
+
+-- "14 before 15": an SR step whose clause is not trivialised is refused for that, whichever clause does not pass
+pub trivialised-first : {F : Formula} {next : ℕ} {C : Clause} {s : Witness} {r : Reason} {p : ℕ} → ¬ (Trivialises s C) → Judged F next (SR-step C s) (stops r p)
+    → r ≡ NotTrivialised
+trivialised-first out (not-trivialised a) = refl
+trivialised-first out (sr-lowest a b) = absurd (out a)
 
 -- a field is refused for the reason asked, at the place of its tag
 need-or : (b : Bool) (r : Reason) (at : ℕ) (m : Read Extent) (q : Reason) (p : ℕ) → (m ≡ bad q p → (q ≡ r) × (p ≡ at))
