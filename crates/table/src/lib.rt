@@ -69,7 +69,7 @@ pub fn complement(code: usize) -> usize
     requires { ⌜ code < 8192 ⌝ }
     ensures { λ r. ⌜ (r ≡ complement code) × (r < 8192) ⌝ }
 {
-    code + 1 - 2 * (code % 2)
+    code / 2 * 2 + 1 - code % 2
 }
 
 // The image of a literal: the complement of its variable's image where the literal is a complement.

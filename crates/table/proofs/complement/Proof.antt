@@ -18,4 +18,4 @@ unfolding complement
 returns c = search needs
 
 pub complement-spec : {M : Type 1} → statement M
-complement-spec = tie.close (tie.spec add-result mul-result sub-result returns)
+complement-spec = tie.close (tie.spec mul-result add-result sub-result returns)
