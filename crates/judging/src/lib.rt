@@ -72,7 +72,7 @@ fn judge_sr<'a>(
     ensures answer { λ r. ⌜ NewJudged (now (formula .entry)) (now (proof .entry)) (now (words .entry)) 0x12 (now (clause .entry)) (now (numbers .entry)) vars next (now (t .entry)) r ⌝ }
     ensures table { λ r. ⌜ now (t .exit) ≡ now (t .entry) ⌝ }
 {
-    if !loading::trivialises(clause, vars, t) {
+    if !loading::trivialises(clause, t) {
         return stopped(Reason::NotTrivialised, 0);
     }
     match conditions::lowest_failing(formula, proof, words, clause, numbers, vars, t) {

@@ -1,7 +1,7 @@
 // Literals assumed in the table of the variables: the complements of a new clause's literals, and those of the images of
 // another clause's literals, which finds on the way whether the witness trivialises that clause; and their variables unset again.
 ghost use mathlib.Core.Path.{_≡_};
-ghost use Prim.Native.Nat.{_≤_};
+ghost use Prim.Native.Nat.{ℕ, _≤_};
 ghost use lib.ListN.{length};
 ghost use Rattle.paper.specs.Atoms.{Witness};
 ghost use Rattle.paper.specs.Files.{codes};
@@ -75,9 +75,9 @@ pub fn unset_images(clause: &[u8], t: &mut [u8])
     }
 }
 
-// Whether the witness whose images the table holds trivialises the clause. Only its contract needs vars.
-pub fn trivialises(clause: &[u8], vars: usize, t: &mut [u8]) -> bool
-    requires { ⌜ Ready vars (now t) × (Inward vars (now t) × Codes vars (codes (now clause))) ⌝ }
+// Whether the witness whose images the table holds trivialises the clause.
+pub fn trivialises(clause: &[u8], t: &mut [u8]) -> bool
+    requires { ⌜ ((vars : ℕ) × (Ready vars (now t) × (Inward vars (now t) × Codes vars (codes (now clause))))) ⌝ }
     ensures answer { λ r. ⌜ ((s : Witness) → Images (now (t .entry)) s → Decides r (Trivialises s (codes (now (clause .entry))))) ⌝ }
     ensures table { λ r. ⌜ now (t .exit) ≡ now (t .entry) ⌝ }
 {

@@ -13,7 +13,9 @@ use Rattle.loading.proofs.trivialises.Reads as trivialises-reads
 
 -- src/lib.rt:75:9
 trivialises-requires : tie.Need-trivialises-requires
-trivialises-requires c κs = search needs
+trivialises-requires c κs =
+    let s = c .before .before .before .before .before .before .before in
+    (s .args .vars, (s .pre .table, (s .pre .inward, s .pre .new .codes)))
 
 -- src/lib.rt:76:9
 stopped-requires : tie.Need-stopped-requires

@@ -8,13 +8,13 @@ use Rattle.loading.proofs.trivialises.Tie as tie
 
 assume-images-requires : tie.Need-assume-images-requires
 assume-images-requires c κs =
-    let p = c .before .before .before .pre in
+    let p = c .before .before .before .pre .1 in
     (p .0 .long, codes-storable _ _ (p .0 .small) (p .1 .1))
 
 unset-images-requires : tie.Need-unset-images-requires
 unset-images-requires c κs =
     let k = c .before .before .before in
-    let p = k .before .before .before .before .pre in
+    let p = k .before .before .before .before .pre .1 in
     let long = p .0 .long in
     (search needs, codes-storable _ _ (p .0 .small) (p .1 .1))
 
@@ -32,7 +32,7 @@ returns c =
     let d = c .before .before .before .before in
     let k = d .before .before .before .before in
     let a = k .before .before .before .before in
-    let p = a .pre in (
+    let p = a .pre .1 in (
       λ s images. trivial-yes _ _ (p .0) (p .1 .0) _ (p .1 .1) s images (sym (c .enum-told .given .1) ∙ k .assume-images .ensures .0),
       d .unset-images .ensures ∙ images-undone _ (p .0 .unset) _ _ (k .assume-images .ensures .1),
     )
@@ -45,7 +45,7 @@ returns-2 c =
     let d = c .before .before .before .before in
     let k = d .before .before .before .before in
     let a = k .before .before .before .before in
-    let p = a .pre in (
+    let p = a .pre .1 in (
       λ s images. trivial-no _ _ (p .0) (p .1 .0) _ (p .1 .1) s images (sym (c .enum-told2 .given .1) ∙ k .assume-images .ensures .0),
       d .unset-images .ensures ∙ images-undone _ (p .0 .unset) _ _ (k .assume-images .ensures .1),
     )
