@@ -42,7 +42,6 @@ use Rattle.steps.proofs.Part.{no-codes}
 use Rattle.steps.proofs.Fields.{Lie, lie}
 use Rattle.steps.proofs.Numbers.{removed-length, listed-used, after-removing, after-adding}
 use Rattle.steps.proofs.Step.{clause-of, witness-of, numbers-of, fields-refuse, clause-refuses, mappings-refuse, twice-refuses, numbers-refuse, used-up, new-read, delete-read, delete-tag}
-use Rattle.loading.specs.Loading as loading
 use Rattle.loading.proofs.Trivial.{images-inward}
 use Rattle.judging.specs.declared.Judgement.{Judgement}
 use Rattle.judging.specs.declared.Judgement.the-variants.{Passed, Stopped}

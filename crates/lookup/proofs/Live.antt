@@ -9,7 +9,7 @@ use native.Mathlib.Omega.{arith}
 use native.Mathlib.Numerals.{add-one}
 use lib.Dec.{eqb, leb}
 use lib.ListN.{length, getD, set, take, drop, drop-of-length-le}
-use lib.Seq.{drop-cons, getD-set-other}
+use lib.Seq.{drop-cons}
 use Rattle.paper.specs.declared.Reason.{Reason}
 use Rattle.paper.specs.declared.Extent.{Extent}
 use Rattle.paper.specs.Atoms.{Clause, Formula, Live}
@@ -17,8 +17,7 @@ use Rattle.paper.specs.Files.{File, ok, payload, field, even, codes}
 use Rattle.paper.specs.Conditions.{is-in, without}
 use Rattle.paper.specs.Refusals.{is-live}
 use Rattle.paper.proofs.Lists.{eqb-yes, eqb-no, eqb-same, eqb-other, leb-yes, leb-no, leb-within, leb-beyond}
-use Rattle.paper.proofs.Valid.{Rising}
-use Rattle.lookup.specs.Clause.{formulaWord, proofWord, Entered, clauseBytes, onward, lowered, cleared, ClauseTable}
+use Rattle.lookup.specs.Clause.{formulaWord, proofWord, Entered, clauseBytes, onward, lowered, cleared}
 use Rattle.lookup.specs.Live.{live-from, live, EmptyLive}
 use Rattle.lookup.proofs.Clause.{clause-of-formula, clause-of-proof}
 
@@ -335,24 +334,6 @@ live-out f p ws {n} {D} q =
     let r = out-from f p 0 n D ws q in
     let e : n ≡ r .0 = (r .1) ∙ omega arith in
     rw e (r .2)
-
--- the numbers rise
-rising-from : (f p : File) (k : ℕ) (ws : List ℕ) → Rising (live-from f p k ws)
-unfolding live-from
-rising-from f p k [] = tt
-rising-from f p k (x ∷ ws) = go (rising-from f p (suc k) ws) (leb 1048576 x)
-  where
-    above : (m : ℕ) (E : Clause) → Live (live-from f p (suc k) ws) m E → k < m
-    above m E q = let r = out-from f p (suc k) m E ws q in let e : m ≡ suc k + r .0 = r .1 in omega arith
-
-    go : Rising (live-from f p (suc k) ws) → (b : Bool)
-        → Rising (elim b [ true ↦ (k, codes (clauseBytes f p x)) ∷ live-from f p (suc k) ws | false ↦ live-from f p (suc k) ws ])
-    go below false = below
-    go below true = (above, below)
-
-pub live-rising : (f p : File) (ws : List ℕ) → Rising (live f p ws)
-unfolding live
-live-rising f p ws = rising-from f p 0 ws
 
 in-from : (f p : File) (k n : ℕ) (ws : List ℕ) → n < length ws → Entered (getD ws n 0) → Live (live-from f p k ws) (k + n) (codes (clauseBytes f p (getD ws n 0)))
 in-from f p k n [] h ne = absurd (omega arith)

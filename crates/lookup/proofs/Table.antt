@@ -1,7 +1,7 @@
 -- What the words of the clause table always are: at the start, when a clause is entered, when a number is cleared, and over those in use.
 -- Assumes nothing.
 use Prim.Native.Nat.{ℕ, zero, suc, _+_, _-_, _≤_, _<_}
-use mathlib.Core.Path.{_≡_, refl, sym, ap, _∙_}
+use mathlib.Core.Path.{_≡_, refl, sym, _∙_}
 use mathlib.Core.Logic.{_≢_}
 use mathlib.Core.Bool.{Bool, true, false}
 use mathlib.Core.List.{List, [], _∷_}
@@ -10,12 +10,11 @@ use native.Mathlib.Decide.{ℕ-discrete}
 use lib.Dec.{leb}
 use lib.ListN.{length, getD, set, take, drop, length-set}
 use lib.Seq.{getD-set-same, getD-set-other}
-use Rattle.paper.specs.Atoms.{Formula}
 use Rattle.paper.specs.Files.{File}
 use Rattle.paper.proofs.Lists.{leb-yes, leb-no}
 use Rattle.lookup.specs.Clause.{Entered, Stands, onward, lowered, cleared, ClauseTable}
 use Rattle.lookup.specs.Live.{live-from}
-use Rattle.lookup.proofs.Live.{live-skip, live-end, onward-low}
+use Rattle.lookup.proofs.Live.{live-skip}
 
 -- words that are all 0
 pub table-start : (f p : File) (next : ℕ) (ws : List ℕ) → ((j : ℕ) → getD ws j 0 ≡ 0) → ClauseTable f p next ws

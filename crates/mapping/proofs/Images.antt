@@ -17,10 +17,9 @@ use Rattle.paper.specs.Files.{Read, ok, bad, _>>_, need}
 use Rattle.paper.specs.Conditions.{look, image, is-in}
 use Rattle.paper.specs.Refusals.{no-two, between, check-mappings}
 use Rattle.paper.proofs.Lists.{Distinct, and-yes, or-no, leb-yes, eqb-no}
-use Rattle.table.specs.Table.{Kept, valueAt, mappedAt, imageAt, imageOf, setImage, values, Zero}
+use Rattle.table.specs.Table.{Kept, valueAt, mappedAt, imageAt, imageOf, setImage, Zero}
 use Rattle.table.proofs.Laws.{length-setImage, image-unmapped, image-same, image-other, mapped-same, mapped-other, value-setImage}
-use Rattle.table.proofs.Values.{values-by}
-use Rattle.table.proofs.Kept.{kept-refl, kept-image-of, same-table}
+use Rattle.table.proofs.Kept.{kept-refl, same-table}
 use Rattle.mapping.specs.declared.Loaded.the-variants.{Once}
 use Rattle.mapping.specs.Mapping.{variables, Fitting, Bare, loaded, unloaded, saidBy}
 use Rattle.mapping.proofs.Unloading.{Apart, unload-back, unload-value}
@@ -52,17 +51,11 @@ fitting vars p (m ∷ s) h e v a q = go (leb 1 (m .0) && leb (m .0) vars) refl (
         (omega arith, (omega arith, omega arith))
     go true f true g e below (List·Memᴰ·tail r) = below e v a r
 
--- a table that is all zero has no image; nor has one that differs in values alone
+-- a table that is all zero has no image
 pub zero-bare : (t : List ℕ) → Zero t → Bare t
 zero-bare t z v =
     let e = z (v * 2) in
     (omega arith, z (v * 2 + 1))
-
-pub kept-bare : (t u : List ℕ) → Kept t u → Bare t → Bare u
-kept-bare t u k bare v =
-    let e = k .first v in
-    let b = bare v .0 in
-    (omega arith, k .second v ∙ bare v .1)
 
 pub bare-image : (t : List ℕ) → Bare t → (v : ℕ) → imageAt t v ≡ 2 * v
 bare-image t bare v = image-unmapped t v (bare-mapped t bare v)
@@ -76,9 +69,6 @@ pub loaded-value : (s : Witness) (t : List ℕ) (v : ℕ) → valueAt (loaded t 
 unfolding loaded
 loaded-value [] t v = refl
 loaded-value (m ∷ s) t v = loaded-value s (setImage t (m .0) (m .1)) v ∙ value-setImage t (m .0) (m .1) v
-
-pub loaded-values : (vars : ℕ) (s : Witness) (t : List ℕ) → values vars (loaded t s) ≡ values vars t
-loaded-values vars s t = values-by vars t (loaded t s) (λ v b. loaded-value s t v)
 
 -- each variable once, where the paper's test says so
 pub no-two-distinct : (why : Reason) (u : ℕ) (xs seen : List ℕ) (p : ℕ) → no-two why seen u p xs ≡ ok tt
@@ -156,10 +146,6 @@ images (m ∷ s) t v l fits d e =
         ∙ sym (look-here m s v h (sym p))
     go (no n) below = below (image-other t (m .0) (m .1) v n ∙ e) ∙ sym (look-past m s v (λ p. n (sym p)))
 
-or-false : (b : Bool) → (b || false) ≡ b
-or-false true = refl
-or-false false = refl
-
 or-true : (b : Bool) → (b || true) ≡ true
 or-true true = refl
 or-true false = refl
@@ -204,14 +190,6 @@ module _ (s : Witness) (t : List ℕ) (long : 8192 ≤ length t) (fits : Fitting
   pub loaded-image-of : Distinct (variables s) → (l : ℕ) → imageOf (loaded t s) l ≡ image s l
   unfolding imageOf image
   loaded-image-of d l = ap (λ n. elim (eqb (l % 2) 0) [ true ↦ n | false ↦ complement n ]) (loaded-image d (l / 2))
-
-  -- whatever values are set meanwhile
-  pub image-found : Distinct (variables s) → (u : List ℕ) → Kept (loaded t s) u → (l : ℕ) → imageOf u l ≡ image s l
-  image-found d u k l = kept-image-of k l ∙ loaded-image-of d l
-
-  -- the variables that are mapped are those listed
-  pub loaded-mapped : (v : ℕ) → mappedAt (loaded t s) v ≡ is-in v (variables s)
-  loaded-mapped v = mapped s t v long fits ∙ ap (λ b. is-in v (variables s) || b) (bare-mapped t bare v) ∙ or-false (is-in v (variables s))
 
   -- unloaded, with the values that were set meanwhile; and as it was where none is
   pub unload-kept : (u : List ℕ) → Kept (loaded t s) u → Kept t (unloaded u s)

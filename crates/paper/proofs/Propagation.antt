@@ -4,7 +4,7 @@ use Prim.Native.Nat.{ℕ, zero, suc, _+_, _*_, _-_, _%_, _/_, _≤_, _<_}
 use mathlib.Core.Path.{_≡_, refl, sym, ap, _∙_, subst}
 use mathlib.Core.Logic.{_↔_, _≢_, _⊎_, inl, inr}
 use mathlib.Core.Bool.{Bool, true, false, true≢false, false≢true}
-use mathlib.Core.List.{List, [], _∷_, _++_, List·Memᴰ·head, List·Memᴰ·tail, List·Memᴰ·eq-of-singleton}
+use mathlib.Core.List.{List, [], _∷_, List·Memᴰ·head, List·Memᴰ·tail, List·Memᴰ·eq-of-singleton}
 use native.Mathlib.Omega.{arith}
 use native.Mathlib.Decide.{ℕ-discrete}
 use lib.Dec.{eqb}
@@ -201,42 +201,6 @@ module _ (F : Formula) (A : List ℕ) where
   unfolding blank
   blank-sound vars = record { known = λ l t. absurd (none-true (suc vars) l t); clashed = λ c. absurd (false≢true c) }
 
--- more assumptions, or more that follows from them: what was derived still is
-pub derived-more : (F : Formula) (A B : List ℕ) → ((a : ℕ) → a ∈ A → Derived F B a) → {l : ℕ} → Derived F A l → Derived F B l
-derived-more F A B sub (given m) = sub _ m
-derived-more F A B sub (unit live m f) = unit live m (λ k km ne. derived-more F A B sub (f k km ne))
-
-pub clash-more : (F : Formula) (A B : List ℕ) → ((a : ℕ) → a ∈ A → Derived F B a) → Clash F A → Clash F B
-clash-more F A B sub (both p q) = both (derived-more F A B sub p) (derived-more F A B sub q)
-clash-more F A B sub (broken live f) = broken live (λ k km. derived-more F A B sub (f k km))
-
-pub sound-more : (F : Formula) (A B : List ℕ) → ((a : ℕ) → a ∈ A → Derived F B a) → (s : State) → Sound F A s → Sound F B s
-sound-more F A B sub s good =
-    record { known = λ l t. derived-more F A B sub (good .known l t); clashed = λ c. clash-more F A B sub (good .clashed c) }
-
--- assumptions in two parts
-pub assume-append : (B A : List ℕ) (s : State) → assume B s .clash ≡ false → assume (B ++ A) s ≡ assume A (assume B s)
-assume-append [] A s g = ap (assume A) (sym (assume-none s))
-assume-append (b ∷ B) A s g = go (assume-append B A (assuming b s)) (is-true (s .values) (complement b)) refl
-  where
-    go : (assume B (assuming b s) .clash ≡ false → assume (B ++ A) (assuming b s) ≡ assume A (assume B (assuming b s))) → (t : Bool)
-        → is-true (s .values) (complement b) ≡ t → assume (b ∷ (B ++ A)) s ≡ assume A (assume (b ∷ B) s)
-    go rec true e = absurd (true≢false (sym (ap (λ (t : State). t .clash) (assume-clash b B s e)) ∙ g))
-    go rec false e =
-        assume-next b (B ++ A) s e ∙ rec (sym (ap (λ (t : State). t .clash) (assume-next b B s e)) ∙ g)
-        ∙ ap (assume A) (sym (assume-next b B s e))
-
--- and a clash in the first part is the answer
-pub assume-append-clash : (B A : List ℕ) (s : State) → s .clash ≡ false → assume B s .clash ≡ true → assume (B ++ A) s ≡ assume B s
-assume-append-clash [] A s h g = absurd (true≢false (sym g ∙ ap (λ (t : State). t .clash) (assume-none s) ∙ h))
-assume-append-clash (b ∷ B) A s h g = go (assume-append-clash B A (assuming b s) refl) (is-true (s .values) (complement b)) refl
-  where
-    go : (assume B (assuming b s) .clash ≡ true → assume (B ++ A) (assuming b s) ≡ assume B (assuming b s)) → (t : Bool)
-        → is-true (s .values) (complement b) ≡ t → assume (b ∷ (B ++ A)) s ≡ assume (b ∷ B) s
-    go rec true e = assume-clash b (B ++ A) s e ∙ sym (assume-clash b B s e)
-    go rec false e =
-        assume-next b (B ++ A) s e ∙ rec (sym (ap (λ (t : State). t .clash) (assume-next b B s e)) ∙ g) ∙ sym (assume-next b B s e)
-
 -- 3. The measure: how many values are unset.
 open-at : ℕ → ℕ
 open-at zero = 1
@@ -406,30 +370,23 @@ sweep-visited vars F codes s fits =
     let w : Visited vars F (sweeping s) (visits F (sweeping s)) = visits-visited vars F codes (sweeping s) fits in
     record { grows = w .grows; fits = w .fits; count = w .count; more = w .more; still = w .still; quiet = w .quiet }
 
--- what any number of sweeps makes of a state
-record Swept (vars : ℕ) (s t : State) : Type 0 where
-  grows : (l : ℕ) → is-true (s .values) l ≡ true → is-true (t .values) l ≡ true
-  fits : Fits vars (t .values)
-  count : unset (t .values) + t .literals ≡ unset (s .values) + s .literals
+-- what is true stays true
+abbrev Grows : State → State → Type 0
+Grows s t = (l : ℕ) → is-true (s .values) l ≡ true → is-true (t .values) l ≡ true
 
 module _ (vars : ℕ) (F : Formula) (codes : (m : ℕ) (D : Clause) → Live F m D → Codes vars D) where
-  sweeps-swept : (n : ℕ) (s : State) → Fits vars (s .values) → Swept vars s (sweeps-to n F s)
-  sweeps-swept zero s fits = subst (Swept vars s) (sym (sweeps-none F s)) (record { grows = λ l t. t; fits = fits; count = refl })
-  sweeps-swept (suc n) s fits = go (sweeps-swept n (sweep F s) (w .fits)) (sweep F s .clash) refl (ℕ-discrete (sweep F s .literals) (s .literals))
+  sweeps-grow : (n : ℕ) (s : State) → Fits vars (s .values) → Grows s (sweeps-to n F s)
+  sweeps-grow zero s fits = subst (Grows s) (sym (sweeps-none F s)) (λ l t. t)
+  sweeps-grow (suc n) s fits = go (sweeps-grow n (sweep F s) (w .fits)) (sweep F s .clash) refl (ℕ-discrete (sweep F s .literals) (s .literals))
     where
       w : Visited vars F s (sweep F s)
       w = sweep-visited vars F codes s fits
 
-      once : Swept vars s (sweep F s)
-      once = record { grows = w .grows; fits = w .fits; count = w .count }
-
-      go : Swept vars (sweep F s) (sweeps-to n F (sweep F s)) → (b : Bool) → sweep F s .clash ≡ b → Dec (sweep F s .literals ≡ s .literals)
-          → Swept vars s (sweeps-to (suc n) F s)
-      go rec true e d = subst (Swept vars s) (sym (sweeps-clash n F s e)) once
-      go rec false e (yes q) = subst (Swept vars s) (sym (sweeps-last n F s e q)) once
-      go rec false e (no q) =
-          subst (Swept vars s) (sym (sweeps-next n F s e q))
-          (record { grows = λ l t. rec .grows l (w .grows l t); fits = rec .fits; count = rec .count ∙ w .count })
+      go : Grows (sweep F s) (sweeps-to n F (sweep F s)) → (b : Bool) → sweep F s .clash ≡ b → Dec (sweep F s .literals ≡ s .literals)
+          → Grows s (sweeps-to (suc n) F s)
+      go rec true e d = subst (Grows s) (sym (sweeps-clash n F s e)) (w .grows)
+      go rec false e (yes q) = subst (Grows s) (sym (sweeps-last n F s e q)) (w .grows)
+      go rec false e (no q) = subst (Grows s) (sym (sweeps-next n F s e q)) (λ l t. rec l (w .grows l t))
 
   -- as many sweeps as values are unset: the last of them sets nothing
   sweeps-settled : (n : ℕ) (s : State) → Fits vars (s .values) → unset (s .values) ≤ n → sweeps-to n F s .clash ≡ false
@@ -530,7 +487,7 @@ module _ (vars : ℕ) (F : Formula) (valid : Valid vars F) where
     loaded-sound = record { known = loaded .known; clashed = λ c. absurd (false≢true (sym (loaded .going) ∙ c)) }
 
     end-all : (a : ℕ) → a ∈ A → is-true (sweeps-to (suc vars) F s .values) a ≡ true
-    end-all a m = sweeps-swept vars F (valid .codes) (suc vars) s (loaded .fits) .grows a (loaded .all a m)
+    end-all a m = sweeps-grow vars F (valid .codes) (suc vars) s (loaded .fits) a (loaded .all a m)
 
     end-settled : sweeps-to (suc vars) F s .clash ≡ false → AllSettled F (sweeps-to (suc vars) F s .values)
     end-settled = sweeps-settled vars F (valid .codes) (suc vars) s (loaded .fits) (unset-enough vars (s .values) (loaded .fits))
@@ -546,37 +503,9 @@ module _ (vars : ℕ) (F : Formula) (valid : Valid vars F) where
     pub sweeps-iff : (sweeps-to (suc vars) F s .clash ≡ true) ↔ Clash F A
     sweeps-iff = (sweeps-sound F A (suc vars) s loaded-sound .clashed, sweeps-clash-in)
 
-    -- and where they do not, what is true is what is derived
-    pub sweeps-derived : sweeps-to (suc vars) F s .clash ≡ false → (l : ℕ) → (is-true (sweeps-to (suc vars) F s .values) l ≡ true) ↔ Derived F A l
-    sweeps-derived e l = (
-      sweeps-sound F A (suc vars) s loaded-sound .known l,
-      λ d. derived-set F A (sweeps-to (suc vars) F s .values) end-all (end-settled e) (valid .apart) d,
-    )
-
   -- further sweeps change nothing
   pub sweeps-enough : (s : State) → Fits vars (s .values) → (n : ℕ) → suc vars ≤ n → sweeps-to n F s ≡ sweeps-to (suc vars) F s
   sweeps-enough s fits n h = sweeps-same vars F (valid .codes) (suc vars) n s fits (unset-enough vars (s .values) fits) h
-
-  -- vars literals are set at most, by any number of sweeps
-  pub sweeps-literals : (n : ℕ) (s : State) → Fits vars (s .values) → sweeps-to n F s .literals ≤ s .literals + vars
-  sweeps-literals n s fits =
-      let w : Swept vars s (sweeps-to n F s) = sweeps-swept vars F (valid .codes) n s fits in
-      omega (arith, w .count, unset-pos vars (sweeps-to n F s .values) (w .fits), unset-enough vars (s .values) fits)
-
-  pub sweeps-fit : (n : ℕ) (s : State) → Fits vars (s .values) → Fits vars (sweeps-to n F s .values)
-  sweeps-fit n s fits = sweeps-swept vars F (valid .codes) n s fits .fits
-
-  -- what is true stays true
-  pub sweeps-keep : (n : ℕ) (s : State) → Fits vars (s .values) → (l : ℕ) → is-true (s .values) l ≡ true → is-true (sweeps-to n F s .values) l ≡ true
-  sweeps-keep n s fits = sweeps-swept vars F (valid .codes) n s fits .grows
-
-  pub sweep-literals : (s : State) → Fits vars (s .values) → sweep F s .literals ≤ s .literals + vars
-  sweep-literals s fits =
-      let w : Visited vars F s (sweep F s) = sweep-visited vars F (valid .codes) s fits in
-      omega (arith, w .count, unset-pos vars (sweep F s .values) (w .fits), unset-enough vars (s .values) fits)
-
-  pub sweep-fits : (s : State) → Fits vars (s .values) → Fits vars (sweep F s .values)
-  sweep-fits s fits = sweep-visited vars F (valid .codes) s fits .fits
 
 -- 7. Propagation from A.
 pub blank-fits : (vars : ℕ) → Fits vars (blank vars .values)
@@ -645,124 +574,3 @@ propagate-complete vars F A valid codes c = go (assume A (blank vars) .clash) re
 -- The theorem: propagation as it is run clashes exactly when propagation does.
 pub propagate-iff : (vars : ℕ) (F : Formula) (A : List ℕ) → Valid vars F → Codes vars A → (propagate vars F A .clash ≡ true) ↔ Clash F A
 propagate-iff vars F A valid codes = (propagate-sound vars F A, propagate-complete vars F A valid codes)
-
--- vars + 1 sweeps are enough: any larger number gives the same
-pub propagate-enough : (vars : ℕ) (F : Formula) (A : List ℕ) → Valid vars F → Codes vars A → (n : ℕ) → suc vars ≤ n
-    → sweeps-to n F (assume A (blank vars)) ≡ sweeps-to (suc vars) F (assume A (blank vars))
-propagate-enough vars F A valid codes = sweeps-enough vars F valid (assume A (blank vars)) (assume-all vars A codes (blank vars) (blank-fits vars) .fits)
-
--- 8. The counters, from any state: literals only rise, and each sweep counts one.
-pub visit-rises : (r : Clause) (s : State) → s .literals ≤ visit r s .literals
-visit-rises [] s = rw visit-none (omega arith)
-visit-rises (l ∷ []) s = go (is-true (s .values) l) refl
-  where
-    go : (b : Bool) → is-true (s .values) l ≡ b → s .literals ≤ visit (l ∷ []) s .literals
-    go true e = rw (visit-true l s e) (omega arith)
-    go false e = rw (visit-set l s e) (omega arith)
-visit-rises (l ∷ k ∷ r) s = rw visit-more (omega arith)
-
-pub visits-rise : (F : Formula) (s : State) → s .literals ≤ visits F s .literals
-visits-rise [] s = rw visits-end (omega arith)
-visits-rise (D ∷ F) s = go (visits-rise F) (s .clash) refl
-  where
-    next : State
-    next = visit (not-false (s .values) (D .1)) s
-
-    go : ((t : State) → t .literals ≤ visits F t .literals) → (b : Bool) → s .clash ≡ b → s .literals ≤ visits (D ∷ F) s .literals
-    go rec true e = rw (visits-clashed (D ∷ F) s e) (omega arith)
-    go rec false e = rw (visits-next D F s e) (omega (arith, rec next, visit-rises (not-false (s .values) (D .1)) s))
-
-pub sweep-rises : (F : Formula) (s : State) → s .literals ≤ sweep F s .literals
-sweep-rises F s = rw sweep-visits (visits-rise F (sweeping s))
-
-pub sweeps-rise : (n : ℕ) (F : Formula) (s : State) → s .literals ≤ sweeps-to n F s .literals
-sweeps-rise zero F s = rw sweeps-none (omega arith)
-sweeps-rise (suc n) F s = go (sweeps-rise n F (sweep F s)) (sweep F s .clash) refl (ℕ-discrete (sweep F s .literals) (s .literals))
-  where
-    go : sweep F s .literals ≤ sweeps-to n F (sweep F s) .literals → (b : Bool) → sweep F s .clash ≡ b → Dec (sweep F s .literals ≡ s .literals)
-        → s .literals ≤ sweeps-to (suc n) F s .literals
-    go rec true e d = rw (sweeps-clash n F s e) (sweep-rises F s)
-    go rec false e (yes q) = rw (sweeps-last n F s e q) (sweep-rises F s)
-    go rec false e (no q) = rw (sweeps-next n F s e q) (omega (arith, sweep-rises F s))
-
--- the first of several sweeps sets no more than all of them
-pub sweeps-first : (n : ℕ) (F : Formula) (s : State) → sweep F s .literals ≤ sweeps-to (suc n) F s .literals
-sweeps-first n F s = go (sweep F s .clash) refl (ℕ-discrete (sweep F s .literals) (s .literals))
-  where
-    go : (b : Bool) → sweep F s .clash ≡ b → Dec (sweep F s .literals ≡ s .literals) → sweep F s .literals ≤ sweeps-to (suc n) F s .literals
-    go true e d = rw (sweeps-clash n F s e) (omega arith)
-    go false e (yes q) = rw (sweeps-last n F s e q) (omega arith)
-    go false e (no q) = rw (sweeps-next n F s e q) (sweeps-rise n F (sweep F s))
-
-pub visit-sweeps : (r : Clause) (s : State) → visit r s .sweeps ≡ s .sweeps
-visit-sweeps [] s = rw visit-none
-visit-sweeps (l ∷ []) s = go (is-true (s .values) l) refl
-  where
-    go : (b : Bool) → is-true (s .values) l ≡ b → visit (l ∷ []) s .sweeps ≡ s .sweeps
-    go true e = rw (visit-true l s e)
-    go false e = rw (visit-set l s e)
-visit-sweeps (l ∷ k ∷ r) s = rw visit-more
-
-pub visits-sweeps : (F : Formula) (s : State) → visits F s .sweeps ≡ s .sweeps
-visits-sweeps [] s = rw visits-end
-visits-sweeps (D ∷ F) s = go (visits-sweeps F) (s .clash) refl
-  where
-    next : State
-    next = visit (not-false (s .values) (D .1)) s
-
-    go : ((t : State) → visits F t .sweeps ≡ t .sweeps) → (b : Bool) → s .clash ≡ b → visits (D ∷ F) s .sweeps ≡ s .sweeps
-    go rec true e = rw (visits-clashed (D ∷ F) s e)
-    go rec false e = rw (visits-next D F s e) (rec next ∙ visit-sweeps (not-false (s .values) (D .1)) s)
-
-pub sweep-sweeps : (F : Formula) (s : State) → sweep F s .sweeps ≡ suc (s .sweeps)
-sweep-sweeps F s = rw sweep-visits (visits-sweeps F (sweeping s))
-
-pub sweeps-made : (n : ℕ) (F : Formula) (s : State) → sweeps-to n F s .sweeps ≤ s .sweeps + n
-sweeps-made zero F s = rw sweeps-none (omega arith)
-sweeps-made (suc n) F s = go (sweeps-made n F (sweep F s)) (sweep F s .clash) refl (ℕ-discrete (sweep F s .literals) (s .literals))
-  where
-    go : sweeps-to n F (sweep F s) .sweeps ≤ sweep F s .sweeps + n → (b : Bool) → sweep F s .clash ≡ b → Dec (sweep F s .literals ≡ s .literals)
-        → sweeps-to (suc n) F s .sweeps ≤ s .sweeps + suc n
-    go rec true e d = rw (sweeps-clash n F s e) (omega (arith, sweep-sweeps F s))
-    go rec false e (yes q) = rw (sweeps-last n F s e q) (omega (arith, sweep-sweeps F s))
-    go rec false e (no q) = rw (sweeps-next n F s e q) (omega (arith, sweep-sweeps F s))
-
--- assuming sets no counter
-pub assume-literals : (A : List ℕ) (s : State) → assume A s .literals ≡ s .literals
-assume-literals [] s = rw assume-none
-assume-literals (a ∷ A) s = go (assume-literals A (assuming a s)) (is-true (s .values) (complement a)) refl
-  where
-    go : assume A (assuming a s) .literals ≡ s .literals → (b : Bool) → is-true (s .values) (complement a) ≡ b → assume (a ∷ A) s .literals ≡ s .literals
-    go rec true e = rw (assume-clash a A s e)
-    go rec false e = rw (assume-next a A s e) rec
-
-pub assume-sweeps : (A : List ℕ) (s : State) → assume A s .sweeps ≡ s .sweeps
-assume-sweeps [] s = rw assume-none
-assume-sweeps (a ∷ A) s = go (assume-sweeps A (assuming a s)) (is-true (s .values) (complement a)) refl
-  where
-    go : assume A (assuming a s) .sweeps ≡ s .sweeps → (b : Bool) → is-true (s .values) (complement a) ≡ b → assume (a ∷ A) s .sweeps ≡ s .sweeps
-    go rec true e = rw (assume-clash a A s e)
-    go rec false e = rw (assume-next a A s e) rec
-
--- vars + 1 sweeps at most, and vars literals
-pub propagate-sweeps-made : (vars : ℕ) (F : Formula) (A : List ℕ) → propagate vars F A .sweeps ≤ suc vars
-unfolding blank
-propagate-sweeps-made vars F A = go (assume A (blank vars) .clash) refl
-  where
-    go : (b : Bool) → assume A (blank vars) .clash ≡ b → propagate vars F A .sweeps ≤ suc vars
-    go true e = rw (propagate-clash vars F A e) (omega (arith, assume-sweeps A (blank vars)))
-    go false e =
-        rw (propagate-sweeps vars F A e) (omega (arith, sweeps-made (suc vars) F (assume A (blank vars)), assume-sweeps A (blank vars)))
-
-pub propagate-literals : (vars : ℕ) (F : Formula) (A : List ℕ) → Valid vars F → Codes vars A → propagate vars F A .literals ≤ vars
-unfolding blank
-propagate-literals vars F A valid codes = go (assume A (blank vars) .clash) refl
-  where
-    fits : Fits vars (assume A (blank vars) .values)
-    fits = assume-all vars A codes (blank vars) (blank-fits vars) .fits
-
-    go : (b : Bool) → assume A (blank vars) .clash ≡ b → propagate vars F A .literals ≤ vars
-    go true e = rw (propagate-clash vars F A e) (omega (arith, assume-literals A (blank vars)))
-    go false e =
-        rw (propagate-sweeps vars F A e)
-        (omega (arith, sweeps-literals vars F valid (suc vars) (assume A (blank vars)) fits, assume-literals A (blank vars)))

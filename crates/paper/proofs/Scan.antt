@@ -8,7 +8,7 @@ use mathlib.Core.List.{List, [], _∷_, List·Memᴰ·head, List·Memᴰ·tail}
 use native.Mathlib.Omega.{arith}
 use native.Mathlib.Numerals.{add-one, add-two}
 use lib.ListN.{length, getD, take, drop, length-take, length-drop}
-use lib.Seq.{drop-cons, getD-take, getD-drop}
+use lib.Seq.{drop-cons}
 use Rattle.paper.specs.declared.Extent.{Extent}
 use Rattle.paper.specs.Atoms.{complement, _∈_, Clause}
 use Rattle.paper.specs.Files.{codes, two, payload, past}
@@ -114,18 +114,6 @@ payload-part f x = let e : x .start + x .size - x .start ≡ x .size = omega ari
 pub length-payload : (f : List ℕ) (x : Extent) → past x ≤ length f → length (payload f x) ≡ x .size
 unfolding payload past
 length-payload f x h = simp (length-take, length-drop) (omega arith)
-
-pub getD-payload : (f : List ℕ) (x : Extent) (i : ℕ) → i < x .size → getD (payload f x) i 0 ≡ getD f (x .start + i) 0
-unfolding payload
-getD-payload f x i h = rw (getD-take, getD-drop)
-
-pub two-payload : (f : List ℕ) (x : Extent) (i : ℕ) → i + 1 < x .size → two (payload f x) i ≡ two f (x .start + i)
-unfolding two
-two-payload f x i h =
-    let a : getD (payload f x) i 0 ≡ getD f (x .start + i) 0 = getD-payload f x i (omega arith) in
-    let b : getD (payload f x) (i + 1) 0 ≡ getD f (x .start + (i + 1)) 0 = getD-payload f x (i + 1) h in
-    let e : x .start + (i + 1) ≡ x .start + i + 1 = omega arith in
-    rw (a, b, e)
 
 -- 4. A turn of the loop, for any list of codes that goes on with l: `next-code` and `part-code` say that one does.
 module _ (l : ℕ) {here rest : Clause} (step : here ≡ l ∷ rest) where

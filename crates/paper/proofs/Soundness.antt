@@ -1,6 +1,6 @@
 -- Demand 3 for one step: what RUP, SR and WSR preserve.
 -- Assumes nothing.
-use Prim.Native.Nat.{ℕ, zero, suc, _+_, _-_, _%_, _/_, _*_, _≤_}
+use Prim.Native.Nat.{ℕ, zero, suc, _+_, _%_, _/_, _*_, _≤_}
 use mathlib.Core.Path.{_≡_, refl, sym, ap, _∙_, ap₂}
 use mathlib.Core.Logic.{_≢_, _⊎_, inl, inr}
 use mathlib.Core.Bool.{Bool, true, false, not, _||_, true≢false, false≢true}

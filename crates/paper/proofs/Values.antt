@@ -1,6 +1,6 @@
 -- Values of the variables: what is true after a literal is put, which literals of a clause are not false, and how long the values are.
 -- Assumes nothing.
-use Prim.Native.Nat.{ℕ, zero, suc, _-_, _%_, _/_, _<_}
+use Prim.Native.Nat.{ℕ, suc, _-_, _%_, _/_, _<_}
 use mathlib.Core.Path.{_≡_, refl, sym, ap, _∙_}
 use mathlib.Core.Logic.{_≢_, _⊎_, inl, inr}
 use mathlib.Core.Bool.{Bool, true, false, true≢false, false≢true}
@@ -8,11 +8,10 @@ use mathlib.Core.List.{List, [], _∷_, List·Memᴰ·head, List·Memᴰ·tail}
 use native.Mathlib.Omega.{arith}
 use native.Mathlib.Nat.{suc-inj}
 use native.Mathlib.Decide.{ℕ-discrete, decLt}
-use lib.Dec.{eqb}
-use lib.ListN.{length, getD, set, length-set, length-replicate, List·getD-eq-default}
+use lib.ListN.{length, getD, set, length-set, List·getD-eq-default}
 use lib.Seq.{getD-set-same, getD-set-other, set-out}
-use Rattle.paper.specs.Atoms.{complement, _∈_, Clause, Formula}
-use Rattle.paper.specs.Sweeps.{Values, is-true, put, not-false, State, visit, visits, sweep, sweeps-to, assume, blank, propagate}
+use Rattle.paper.specs.Atoms.{complement, _∈_, Clause}
+use Rattle.paper.specs.Sweeps.{Values, is-true, put, not-false, State, assume}
 use Rattle.paper.proofs.Lists.{complement-half, complement-mod, same-half, eqb-yes, eqb-no, eqb-same, Distinct}
 
 -- the branch that a test picks
@@ -132,52 +131,7 @@ not-false-distinct vs (l ∷ D) d = go (not-false-distinct vs D (d .1)) (is-true
     go below true = below
     go below false = (λ m. d .0 ((not-false-out vs D m) .0), below)
 
--- Propagation never changes how many values there are, from any state.
-pub length-visit : (r : Clause) (s : State) → length (visit r s .values) ≡ length (s .values)
-unfolding visit
-length-visit [] s = refl
-length-visit (l ∷ []) s = go (is-true (s .values) l)
-  where
-    go : (b : Bool)
-        → length ((elim b as (λ _. State) [
-          | true ↦ s
-          | false ↦ record { values = put (s .values) l; literals = suc (s .literals); sweeps = s .sweeps; clash = false }
-        ]) .values)
-        ≡ length (s .values)
-    go true = refl
-    go false = length-put (s .values) l
-length-visit (l ∷ k ∷ r) s = refl
-
-pub length-visits : (F : Formula) (s : State) → length (visits F s .values) ≡ length (s .values)
-unfolding visits
-length-visits [] s = refl
-length-visits (D ∷ F) s = go (length-visits F) (s .clash)
-  where
-    go : ((t : State) → length (visits F t .values) ≡ length (t .values)) → (b : Bool)
-        → length ((elim b as (λ _. State) [ true ↦ s | false ↦ visits F (visit (not-false (s .values) (D .1)) s) ]) .values)
-        ≡ length (s .values)
-    go rec true = refl
-    go rec false = rec (visit (not-false (s .values) (D .1)) s) ∙ length-visit (not-false (s .values) (D .1)) s
-
-pub length-sweep : (F : Formula) (s : State) → length (sweep F s .values) ≡ length (s .values)
-unfolding sweep
-length-sweep F s = length-visits F (record { values = s .values; literals = s .literals; sweeps = suc (s .sweeps); clash = s .clash })
-
-pub length-sweeps-to : (n : ℕ) (F : Formula) (s : State) → length (sweeps-to n F s .values) ≡ length (s .values)
-unfolding sweeps-to
-length-sweeps-to zero F s = refl
-length-sweeps-to (suc n) F s = go (length-sweeps-to n F (sweep F s)) (sweep F s .clash) (eqb (sweep F s .literals) (s .literals))
-  where
-    go : length (sweeps-to n F (sweep F s) .values) ≡ length (sweep F s .values) → (c q : Bool)
-        → length ((elim c as (λ _. State) [
-          | true ↦ sweep F s
-          | false ↦ elim q [ true ↦ sweep F s | false ↦ sweeps-to n F (sweep F s) ]
-        ]) .values)
-        ≡ length (s .values)
-    go rec true q = length-sweep F s
-    go rec false true = length-sweep F s
-    go rec false false = rec ∙ length-sweep F s
-
+-- assuming never changes how many values there are
 pub length-assume : (A : List ℕ) (s : State) → length (assume A s .values) ≡ length (s .values)
 unfolding assume
 length-assume [] s = refl
@@ -191,15 +145,3 @@ length-assume (a ∷ A) s = go (length-assume A) (is-true (s .values) (complemen
         ≡ length (s .values)
     go rec true = refl
     go rec false = rec (record { values = put (s .values) a; literals = s .literals; sweeps = s .sweeps; clash = false }) ∙ length-put (s .values) a
-
-pub length-propagate : (vars : ℕ) (F : Formula) (A : List ℕ) → length (propagate vars F A .values) ≡ suc vars
-unfolding propagate blank
-length-propagate vars F A = go (assume A (blank vars)) (length-assume A (blank vars) ∙ length-replicate (suc vars) 0)
-  where
-    go : (s : State) → length (s .values) ≡ suc vars
-        → length ((elim (s .clash) as (λ _. State) [ true ↦ s | false ↦ sweeps-to (suc vars) F s ]) .values) ≡ suc vars
-    go s e = pick (s .clash)
-      where
-        pick : (b : Bool) → length ((elim b as (λ _. State) [ true ↦ s | false ↦ sweeps-to (suc vars) F s ]) .values) ≡ suc vars
-        pick true = e
-        pick false = length-sweeps-to (suc vars) F s ∙ e

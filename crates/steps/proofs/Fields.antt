@@ -3,7 +3,7 @@
 use Prim.Native.Nat.{ℕ, _+_, _%_, _≤_, _<_}
 use mathlib.Core.Path.{_≡_, refl, ap, subst}
 use mathlib.Core.Logic.{_≢_}
-use mathlib.Core.Bool.{Bool, true, false, _&&_, true≢false}
+use mathlib.Core.Bool.{Bool, true, false, true≢false}
 use native.Mathlib.Omega.{arith}
 use lib.Dec.{eqb, leb}
 use lib.ListN.{length, getD}
@@ -12,7 +12,7 @@ use Rattle.paper.specs.declared.Extent.{Extent}
 use Rattle.paper.specs.declared.Fields.{Fields}
 use Rattle.paper.specs.Files.{File, Read, ok, bad, _>>=_, _>>_, need, past, field, even, fours}
 use Rattle.paper.specs.Refusals.{between, field-if, read-fields}
-use Rattle.paper.proofs.Lists.{eqb-yes, eqb-no, eqb-same, eqb-other, leb-yes, leb-within, leb-beyond}
+use Rattle.paper.proofs.Lists.{eqb-yes, eqb-no, eqb-same, eqb-other, leb-within, leb-beyond}
 use Rattle.paper.proofs.Reading.{Then, then-bind, then-seq, need-then, between-yes}
 use Rattle.field.specs.declared.Cursor.{Cursor}
 use Rattle.field.specs.declared.Expected.{Expected}
@@ -66,14 +66,6 @@ fours-yes : (n : ℕ) → fours n ≡ true → n % 4 ≡ 0
 unfolding fours
 fours-yes n e = eqb-yes (n % 4) 0 e
 
-no-witness-tag : (t : ℕ) → t ≢ 0x12 → t ≢ 0x13 → between 0x12 0x13 t ≡ false
-unfolding between
-no-witness-tag t a b = go (leb 0x12 t) refl
-  where
-    go : (x : Bool) → leb 0x12 t ≡ x → (x && leb t 0x13) ≡ false
-    go true e = let h = leb-yes 0x12 t e in leb-beyond t 0x13 (omega arith)
-    go false e = refl
-
 -- a field that the step's tag may ask for
 pub record Lies-if (b : Bool) (allowed : ℕ → Bool) (f : File) (at : ℕ) (e : Extent) : Type 0 where
   pub starts : at ≤ e .start
@@ -115,7 +107,6 @@ pub record Lie (f : File) (at : ℕ) (x : Fields) : Type 0 where
   pub new : getD f at 0 ≢ 0x14 → field ProofField (getD f at 0) even f at ≡ ok (x .clause)
   pub new-start : getD f at 0 ≢ 0x14 → x .clause .start ≡ at + 3
   pub no-new : getD f at 0 ≡ 0x14 → x .clause .size ≡ 0
-  pub no-witness : getD f at 0 ≢ 0x12 → getD f at 0 ≢ 0x13 → x .witness .size ≡ 0
   pub no-numbers : getD f at 0 < 0x13 → x .numbers .size ≡ 0
 
 -- 3. The paper's reading of a step's fields, by what stands at each place. c, w and n are the fields found one after the other.
@@ -184,7 +175,6 @@ module _ (f : File) (at : ℕ) where
                 new = λ ne. absurd (ne e);
                 new-start = λ ne. absurd (ne e);
                 no-new = λ _. none;
-                no-witness = λ _ _. none;
                 no-numbers = λ l. absurd (omega arith);
               }
 
@@ -210,7 +200,6 @@ module _ (f : File) (at : ℕ) where
                 new = λ _. hc;
                 new-start = λ _. s;
                 no-new = λ e. absurd (ne e);
-                no-witness = λ a b. witness-lies .unasked (no-witness-tag (getD f at 0) a b);
                 no-numbers = λ l. modulo-lies .unasked (eqb-other (getD f at 0) 0x13 (omega arith));
               }
 
@@ -266,7 +255,3 @@ module _ (f : File) (at : ℕ) where
       go : (m : Read Fields) → read-fields f at ≡ m → Bad p ≡ fieldsOf m → m ≡ bad ProofField p
       go (ok y) e q = let z : _≡_ {A = ℕ} 0 1 = cc in absurd (omega arith)
       go (bad r s) e q = let o = fields-reason f at r s e in cc
-
--- whole: so the fields lie there
-pub whole-lie : (f : File) (at : ℕ) (x : Fields) → Whole x ≡ fieldsOf (read-fields f at) → Lie f at x
-whole-lie f at x q = lie f at x (whole f at x q)

@@ -5,7 +5,7 @@ use mathlib.Core.Path.{_≡_, sym}
 use mathlib.Core.List.{List, []}
 use lib.ListN.{take, drop}
 use Rattle.paper.specs.declared.Extent.{Extent}
-use Rattle.paper.specs.Files.{File, payload, past, codes, mappings}
+use Rattle.paper.specs.Files.{File, payload, past, codes}
 use Rattle.paper.proofs.Scan.{payload-part}
 
 -- the bytes of a file from i to e
@@ -20,7 +20,3 @@ payload-upto f x = sym (payload-part f x)
 pub no-codes : (f : File) (x : Extent) → x .size ≡ 0 → codes (payload f x) ≡ []
 unfolding payload codes
 no-codes f x e = rw e
-
-pub no-mappings : (f : File) (x : Extent) → x .size ≡ 0 → mappings (codes (payload f x)) ≡ []
-unfolding mappings
-no-mappings f x e = rw (no-codes f x e)

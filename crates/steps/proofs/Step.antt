@@ -10,7 +10,7 @@ use Rattle.paper.specs.declared.Reason.{Reason}
 use Rattle.paper.specs.declared.Reason.the-variants.{ProofCode, ProofTwice, NumbersUsedUp}
 use Rattle.paper.specs.declared.Fields.{Fields}
 use Rattle.paper.specs.Atoms.{Clause, Formula, Witness}
-use Rattle.paper.specs.Files.{File, Read, ok, bad, _>>=_, _>>_, need, payload, codes, mappings, RUP-step, SR-step, WSR-step, DELETE-step}
+use Rattle.paper.specs.Files.{File, Read, ok, bad, _>>=_, _>>_, need, payload, codes, mappings, DELETE-step}
 use Rattle.paper.specs.Refusals.{no-two, check-clause, read-fields, check-mappings, check-numbers, to-step, read-step}
 use Rattle.paper.proofs.Lists.{eqb-same, eqb-other, leb-within, leb-beyond}
 use Rattle.steps.specs.declared.Checked.{Checked}
@@ -82,20 +82,8 @@ module _ (f : File) (vars : ℕ) (F : Formula) (next at : ℕ) where
             unfolding read-step _>>=_ _>>_ need
             delete-read e = rw (hx, read-step) (rw (hc, hm, ht, hn, eqb-same (getD f at 0) 0x14 e))
 
--- the step by its tag
+-- a deletion by its tag
 module _ (C : Clause) (s : Witness) (ns : List ℕ) where
-  pub rup-tag : (tag : ℕ) → tag ≡ 0x11 → to-step tag C s ns ≡ RUP-step C
-  unfolding to-step
-  rup-tag tag e = rw e
-
-  pub sr-tag : (tag : ℕ) → tag ≡ 0x12 → to-step tag C s ns ≡ SR-step C s
-  unfolding to-step
-  sr-tag tag e = rw e
-
-  pub wsr-tag : (tag : ℕ) → tag ≡ 0x13 → to-step tag C s ns ≡ WSR-step C s ns
-  unfolding to-step
-  wsr-tag tag e = rw e
-
   pub delete-tag : (tag : ℕ) → tag ≡ 0x14 → to-step tag C s ns ≡ DELETE-step ns
   unfolding to-step
   delete-tag tag e = rw e

@@ -1,27 +1,21 @@
 -- Two tables with the same images, whatever the values; and how clearing the values brings a table back.
 -- Assumes nothing.
-use Prim.Native.Nat.{ℕ, zero, suc, _+_, _*_, _/_, _%_, _<_, _≤_}
+use Prim.Native.Nat.{ℕ, zero, suc, _+_, _*_, _/_, _%_, _<_}
 use mathlib.Core.Path.{_≡_, refl, sym, ap, _∙_}
-use mathlib.Core.Bool.{false}
-use mathlib.Core.Logic.{_≢_}
 use mathlib.Core.List.{List}
 use native.Mathlib.Omega.{arith}
 use native.Mathlib.Decide.{ℕ-discrete, decLt}
-use lib.Dec.{eqb}
 use lib.ListN.{length, getD, replicate, length-replicate, getD-replicate, List·getD-eq-default}
-use lib.Seq.{getD-set-other, ext-getD}
-use Rattle.table.specs.Table.{Kept, valueAt, mappedAt, imageAt, imageOf, setValue, values, clearTo, clearValues, Zero}
-use Rattle.table.proofs.Laws.{image-by, image-of-by, image-unmapped, length-setValue, first-setValue, second-setValue}
-use Rattle.table.proofs.Values.{values-at, values-are, clear-below, clear-beyond}
+use lib.Seq.{ext-getD}
+use Rattle.table.specs.Table.{Kept, valueAt, imageAt, imageOf, setValue, clearTo, clearValues, Zero}
+use Rattle.table.proofs.Laws.{image-by, image-of-by, length-setValue, first-setValue, second-setValue}
+use Rattle.table.proofs.Values.{clear-below, clear-beyond}
 
 pub kept-refl : (t : List ℕ) → Kept t t
 kept-refl t = record { long = refl; first = λ v. refl; second = λ v. refl }
 
 pub kept-trans : {t u w : List ℕ} → Kept t u → Kept u w → Kept t w
 kept-trans a b = record { long = b .long ∙ a .long; first = λ v. b .first v ∙ a .first v; second = λ v. b .second v ∙ a .second v }
-
-pub kept-sym : {t u : List ℕ} → Kept t u → Kept u t
-kept-sym a = record { long = sym (a .long); first = λ v. sym (a .first v); second = λ v. sym (a .second v) }
 
 pub kept-setValue : {t u : List ℕ} (v x : ℕ) → x < 4 → Kept t u → Kept t (setValue u v x)
 kept-setValue {t} {u} v x h k =
@@ -35,26 +29,6 @@ pub kept-clearTo : {t u : List ℕ} (n : ℕ) → Kept t u → Kept t (clearTo n
 unfolding clearTo
 kept-clearTo zero k = k
 kept-clearTo (suc n) k = kept-setValue n 0 (omega arith) (kept-clearTo n k)
-
--- no byte past the first of variable n - 1 is touched
-clear-to-rest : (n : ℕ) (t : List ℕ) (i : ℕ) → n * 2 ≤ i + 1 → getD (clearTo n t) i 0 ≡ getD t i 0
-unfolding clearTo setValue
-clear-to-rest zero t i h = refl
-clear-to-rest (suc n) t i h =
-    let m : i ≢ n * 2 = λ e. omega arith in
-    getD-set-other (clearTo n t) (n * 2) i (getD (clearTo n t) (n * 2) 0 / 4 * 4 + 0) 0 m ∙ clear-to-rest n t i (omega arith)
-
-pub clear-rest : (vars : ℕ) (t : List ℕ) (i : ℕ) → vars * 2 < i → getD (clearValues vars t) i 0 ≡ getD t i 0
-unfolding clearValues
-clear-rest vars t i h = clear-to-rest (suc vars) t i (omega arith)
-
-pub kept-clearValues : {t u : List ℕ} (vars : ℕ) → Kept t u → Kept t (clearValues vars u)
-unfolding clearValues
-kept-clearValues vars k = kept-clearTo (suc vars) k
-
-pub kept-mapped : {t u : List ℕ} → Kept t u → (v : ℕ) → mappedAt u v ≡ mappedAt t v
-unfolding mappedAt
-kept-mapped k v = ap (λ n. eqb (n % 2) 1) (k .first v)
 
 pub kept-image : {t u : List ℕ} → Kept t u → (v : ℕ) → imageAt u v ≡ imageAt t v
 kept-image {t} {u} k v = image-by t u v (k .first v) (k .second v)
@@ -84,18 +58,6 @@ same-table {t} {u} k f = ext-getD 0 u t (k .long) (λ i h. at (i / 2) i (omega a
             let p : i ≡ v * 2 + 1 = omega arith in
             ap (λ n. getD u n 0) p ∙ k .second v ∙ ap (λ n. getD t n 0) (sym p)
 
-pub same-by-values : (vars : ℕ) {t u : List ℕ} → Kept t u → values vars u ≡ values vars t → ((v : ℕ) → vars < v → valueAt u v ≡ valueAt t v) → u ≡ t
-same-by-values vars {t} {u} k e beyond = same-table k each
-  where
-    each : (v : ℕ) → valueAt u v ≡ valueAt t v
-    each v = go (decLt vars v)
-      where
-        go : Dec (vars < v) → valueAt u v ≡ valueAt t v
-        go (yes h) = beyond v h
-        go (no h) =
-            let b : v ≤ vars = omega arith in
-            sym (values-at vars u b) ∙ ap (λ vs. getD vs v 0) e ∙ values-at vars t b
-
 -- a table with no value set, after any values of the variables 0 to vars: clearing them brings it back
 pub cleared : (vars : ℕ) {t u : List ℕ} → Kept t u → ((v : ℕ) → valueAt t v ≡ 0) → ((v : ℕ) → vars < v → valueAt u v ≡ 0) → clearValues vars u ≡ t
 unfolding clearValues
@@ -120,39 +82,7 @@ replicate-zero n i = go (decLt i n)
     go (yes h) = getD-replicate n i 0 0 h
     go (no h) = List·getD-eq-default (replicate n 0) 0 (rw length-replicate (omega arith))
 
-pub zero-by : (t : List ℕ) → t ≡ replicate (length t) 0 → Zero t
-zero-by t e i = ap (λ u. getD u i 0) e ∙ replicate-zero (length t) i
-
--- in a table that is all zero no variable has a value, and each is its own image
+-- in a table that is all zero no variable has a value
 pub zero-value : (t : List ℕ) → Zero t → (v : ℕ) → valueAt t v ≡ 0
 unfolding valueAt
 zero-value t z v = ap (λ n. n % 4) (z (v * 2))
-
-pub zero-values : (vars : ℕ) (t : List ℕ) → Zero t → values vars t ≡ replicate (suc vars) 0
-zero-values vars t z =
-    values-are vars t (replicate (suc vars) 0) (length-replicate (suc vars) 0) (λ v b. zero-value t z v ∙ sym (replicate-zero (suc vars) v))
-
-pub zero-mapped : (t : List ℕ) → Zero t → (v : ℕ) → mappedAt t v ≡ false
-unfolding mappedAt
-zero-mapped t z v = ap (λ n. eqb (n / 4 % 2) 1) (z (v * 2))
-
-pub zero-image : (t : List ℕ) → Zero t → (v : ℕ) → imageAt t v ≡ 2 * v
-zero-image t z v = image-unmapped t v (zero-mapped t z v)
-
--- where only values of the variables 0 to vars are set, clearing them leaves all zero
-pub cleared-zero : (vars : ℕ) (t : List ℕ) → ((v : ℕ) → getD t (v * 2 + 1) 0 ≡ 0) → ((v : ℕ) → getD t (v * 2) 0 < 4)
-    → ((v : ℕ) → vars < v → valueAt t v ≡ 0) → clearValues vars t ≡ replicate (length t) 0
-cleared-zero vars t odd even beyond = cleared vars kept (zero-value (replicate (length t) 0) z) beyond
-  where
-    z : Zero (replicate (length t) 0)
-    z = replicate-zero (length t)
-
-    kept : Kept (replicate (length t) 0) t
-    kept = record {
-      long = sym (length-replicate (length t) 0);
-      first = λ v.
-          let a = even v in
-          let b = z (v * 2) in
-          omega arith;
-      second = λ v. odd v ∙ sym (z (v * 2 + 1));
-    }

@@ -127,13 +127,6 @@ module _ (t : List ℕ) (v x : ℕ) where
       let m = odd-even v w in
       rw getD-set-other
 
-  pub mapped-setValue : x < 4 → (w : ℕ) → mappedAt (setValue t v x) w ≡ mappedAt t w
-  unfolding mappedAt
-  mapped-setValue k w = ap (λ n. eqb (n % 2) 1) (first-setValue k w)
-
-  pub image-setValue : x < 4 → (w : ℕ) → imageAt (setValue t v x) w ≡ imageAt t w
-  image-setValue k w = image-by t (setValue t v x) w (first-setValue k w) (second-setValue w)
-
   pub length-setImage : length (setImage t v x) ≡ length t
   unfolding setImage
   length-setImage = simp length-set
@@ -200,22 +193,6 @@ module _ (t : List ℕ) (v : ℕ) where
   pub second-clearImage-other : (w : ℕ) → w ≢ v → getD (clearImage t v) (w * 2 + 1) 0 ≡ getD t (w * 2 + 1) 0
   unfolding clearImage
   second-clearImage-other w n = second-of-other t v (getD t (v * 2) 0 % 4) (0) w n
-
-  pub mapped-clear : v * 2 < length t → mappedAt (clearImage t v) v ≡ false
-  unfolding mappedAt
-  mapped-clear h =
-      let e = first-clearImage h in
-      ne-eqb (getD (clearImage t v) (v * 2) 0 / 4 % 2) 1 (λ p. omega arith)
-
-  pub mapped-clear-other : (w : ℕ) → w ≢ v → mappedAt (clearImage t v) w ≡ mappedAt t w
-  unfolding mappedAt
-  mapped-clear-other w n = ap (λ b. eqb (b / 4 % 2) 1) (first-clearImage-other w n)
-
-  pub image-clear : v * 2 < length t → imageAt (clearImage t v) v ≡ 2 * v
-  image-clear h = image-unmapped (clearImage t v) v (mapped-clear h)
-
-  pub image-clear-other : (w : ℕ) → w ≢ v → imageAt (clearImage t v) w ≡ imageAt t w
-  image-clear-other w n = image-by t (clearImage t v) w (ap (λ b. b / 4) (first-clearImage-other w n)) (second-clearImage-other w n)
 
   pub value-clearImage : (w : ℕ) → valueAt (clearImage t v) w ≡ valueAt t w
   unfolding clearImage valueAt

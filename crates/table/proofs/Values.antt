@@ -6,11 +6,11 @@ use mathlib.Core.List.{List, [], _∷_}
 use native.Mathlib.Omega.{arith}
 use native.Mathlib.Decide.{ℕ-discrete}
 use lib.Dec.{eqb}
-use lib.ListN.{length, getD, set, replicate, length-set, length-replicate, getD-replicate}
+use lib.ListN.{length, getD, set, length-set}
 use lib.Seq.{getD-set-same, getD-set-other, ext-getD}
 use Rattle.paper.specs.Sweeps.{is-true, put}
-use Rattle.table.specs.Table.{valueAt, setValue, setImage, clearImage, valuesFrom, values, clearTo, clearValues}
-use Rattle.table.proofs.Laws.{value-same, value-other, value-setImage, value-clearImage}
+use Rattle.table.specs.Table.{valueAt, setValue, valuesFrom, values, clearTo}
+use Rattle.table.proofs.Laws.{value-same, value-other}
 
 from-length : (t : List ℕ) (v n : ℕ) → length (valuesFrom t v n) ≡ n
 unfolding valuesFrom
@@ -42,9 +42,6 @@ values-are vars t vs l f =
     let k = values-length vars t in
     ext-getD 0 (values vars t) vs (k ∙ sym l) (λ v h. let b : v ≤ vars = omega arith in values-at vars t b ∙ f v b)
 
-pub values-by : (vars : ℕ) (t u : List ℕ) → ((v : ℕ) → v ≤ vars → valueAt u v ≡ valueAt t v) → values vars u ≡ values vars t
-values-by vars t u f = values-are vars u (values vars t) (values-length vars t) (λ v h. f v h ∙ sym (values-at vars t h))
-
 module _ (vars : ℕ) (t : List ℕ) (v x : ℕ) where
   pub values-put : v ≤ vars → v * 2 < length t → x < 4 → values vars (setValue t v x) ≡ set (values vars t) v x
   values-put b h k =
@@ -61,15 +58,6 @@ module _ (vars : ℕ) (t : List ℕ) (v x : ℕ) where
           go : Dec (w ≡ v) → valueAt (setValue t v x) w ≡ getD (set (values vars t) v x) w 0
           go (yes e) = rw (e, value-same t v x h k) (sym (getD-set-same (values vars t) v x 0 in-list))
           go (no n) = value-other t v x w n ∙ sym (values-at vars t c) ∙ sym (getD-set-other (values vars t) v w x 0 n)
-
-  pub values-beyond : vars < v → values vars (setValue t v x) ≡ values vars t
-  values-beyond h = values-by vars t (setValue t v x) (λ w b. value-other t v x w (λ e. omega arith))
-
-  pub values-setImage : values vars (setImage t v x) ≡ values vars t
-  values-setImage = values-by vars t (setImage t v x) (λ w b. value-setImage t v x w)
-
-pub values-clearImage : (vars : ℕ) (t : List ℕ) (v : ℕ) → values vars (clearImage t v) ≡ values vars t
-values-clearImage vars t v = values-by vars t (clearImage t v) (λ w b. value-clearImage t v w)
 
 module _ (vars : ℕ) (t : List ℕ) (code : ℕ) (b : code / 2 ≤ vars) where
   pub is-true-values : is-true (values vars t) code ≡ eqb (valueAt t (code / 2)) (suc (code % 2))
@@ -103,9 +91,3 @@ pub clear-beyond : (n : ℕ) (t : List ℕ) (v : ℕ) → n ≤ v → valueAt (c
 unfolding clearTo
 clear-beyond zero t v h = refl
 clear-beyond (suc n) t v h = value-other (clearTo n t) n 0 v (λ e. omega arith) ∙ clear-beyond n t v (omega arith)
-
-pub values-cleared : (vars : ℕ) (t : List ℕ) → values vars (clearValues vars t) ≡ replicate (suc vars) 0
-unfolding clearValues
-values-cleared vars t =
-    values-are vars (clearTo (suc vars) t) (replicate (suc vars) 0) (length-replicate (suc vars) 0)
-    (λ v b. let h : v < suc vars = omega arith in clear-below (suc vars) t v h ∙ sym (getD-replicate (suc vars) v 0 0 h))
