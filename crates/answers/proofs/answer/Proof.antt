@@ -4,43 +4,30 @@ use borrow.Author.Needs.{needs}
 use Rattle.answers.proofs.Files.{cleared, zeros, as-long}
 use Rattle.answers.proofs.answer.Statement.{statement}
 use Rattle.answers.proofs.answer.Tie as tie
-use Rattle.answers.proofs.answer.Reads as reads
-use Rattle.answers.proofs.answer.Lts as lts
-use Rattle.answers.proofs.judge_files.Reads as judge-files-reads
-use Rattle.memory.proofs.zero_bytes.Reads as zero-bytes-reads
-use Rattle.memory.proofs.zero_words.Reads as zero-words-reads
 
--- src/lib.rt:89:5
 zero-words-requires : tie.Need-zero-words-requires
 zero-words-requires c κs = search needs
 
--- src/lib.rt:90:5
 zero-bytes-requires : tie.Need-zero-bytes-requires
 zero-bytes-requires c κs = search needs
 
--- src/lib.rt:91:9
 judge-files-requires : tie.Need-judge-files-requires
 judge-files-requires c κs =
     let p = c .before .before .before .before .before .before .before .before .before .before .before .before .before .before .pre in
     cleared _ _ _ _ (p .0) (p .1) (c .before .before .before .before .before .before .before .before .zero-words .ensures) (c .before .before .before .before .zero-bytes .ensures)
 
--- src/lib.rt:92:5
 zero-words-requires-2 : tie.Need-zero-words-requires-2
 zero-words-requires-2 c κs = search needs
 
--- src/lib.rt:93:5
 zero-bytes-requires-2 : tie.Need-zero-bytes-requires-2
 zero-bytes-requires-2 c κs = search needs
 
--- src/lib.rt:83:1
 same-length : tie.Need-same-length
 same-length c = search needs
 
--- src/lib.rt:83:1
 same-length-2 : tie.Need-same-length-2
 same-length-2 c = search needs
 
--- src/lib.rt:83:1
 returns : tie.Need-returns
 returns c =
     let p = c .before .before .before .before .before .before .before .before .before .before .before .before .before .before .before .before .before .before .before .before .before .before .before .before .before .before .before .pre in

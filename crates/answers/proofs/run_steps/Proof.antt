@@ -8,10 +8,6 @@ use Rattle.lookup.specs.Live.{live}
 use Rattle.answers.proofs.Run.{Going, at-start, ready, taken-further, going-on, stopped, used-table, end-refuted, end-held}
 use Rattle.answers.proofs.run_steps.Statement.{statement}
 use Rattle.answers.proofs.run_steps.Tie as tie
-use Rattle.answers.proofs.run_steps.Reads as reads
-use Rattle.answers.proofs.run_steps.Lts as lts
-use Rattle.judging.proofs.take_step.Reads as take-step-reads
-use Rattle.lookup.proofs.has_empty.Reads as has-empty-reads
 
 abbrev Inv-loop : tie.InvT-loop
 Inv-loop formula proof vars first words₀ t₀ at₀ next₀ done₀ words t at next done = Going formula proof vars first (live formula proof words₀) words t at next done

@@ -1,6 +1,5 @@
 -- `batch::skip` is safe and ends: the bytes left are its measure. Assumes nothing.
 use borrow.Author.Needs.{needs}
-use Prim.Native.Nat.{_-_}
 use mathlib.Core.Path.{_≡_}
 use lib.ListN.{length}
 use Rattle.batch.proofs.skip.Statement.{statement}

@@ -11,16 +11,10 @@ use Rattle.paper.proofs.Reasons.{not-reason-1}
 use Rattle.checker.proofs.Memory.{as-at-entry, zeroed, part-length}
 use Rattle.checker.proofs.check.Statement.{statement}
 use Rattle.checker.proofs.check.Tie as tie
-use Rattle.checker.proofs.check.Reads as reads
-use Rattle.checker.proofs.check.Lts as lts
-use Rattle.answers.proofs.answer.Reads as answer-reads
-use Rattle.checker.proofs.work_short.Reads as work-short-reads
 
--- src/lib.rt:38:9
 work-short-requires : tie.Need-work-short-requires
 work-short-requires c κs = search needs
 
--- src/lib.rt:38:9
 returns : tie.Need-returns
 returns c =
     let a = c .before .before .before .before .before .before .args in (
@@ -28,11 +22,9 @@ returns c =
       (as-at-entry 16384 _ (a .words .now) (c .work-short .ensures), as-at-entry 8192 _ (a .bytes .now) (c .work-short .ensures)),
     )
 
--- src/lib.rt:41:9
 work-short-requires-2 : tie.Need-work-short-requires-2
 work-short-requires-2 c κs = search needs
 
--- src/lib.rt:41:9
 returns-2 : tie.Need-returns-2
 returns-2 c =
     let a = c .before .before .before .before .before .before .before .args in (
@@ -40,37 +32,29 @@ returns-2 c =
       (as-at-entry 16384 _ (a .words .now) (c .work-short2 .ensures), as-at-entry 8192 _ (a .bytes .now) (c .work-short2 .ensures)),
     )
 
--- src/lib.rt:43:13
 slice-relend-prefix-w : tie.Need-slice-relend-prefix-w
 slice-relend-prefix-w c = search needs
 
--- src/lib.rt:43:9
 slice-aggregate-w : tie.Need-slice-aggregate-w
 slice-aggregate-w c = sym (part-length 16384 (c .before .before .before .before .before .before .before .args .words .now) (omega arith))
 
--- src/lib.rt:44:13
 slice-relend-prefix-b : tie.Need-slice-relend-prefix-b
 slice-relend-prefix-b c = search needs
 
--- src/lib.rt:44:9
 slice-aggregate-b : tie.Need-slice-aggregate-b
 slice-aggregate-b c = sym (part-length 8192 (c .before .before .before .before .before .before .before .before .args .bytes .now) (omega arith))
 
--- src/lib.rt:45:5
 answer-requires : tie.Need-answer-requires
 answer-requires c κs =
     let a = c .before .before .before .before .before .before .before .before .args in
     (part-length 16384 (a .words .now) (omega arith), part-length 8192 (a .bytes .now) (omega arith))
 
--- src/lib.rt:27:1
 same-length : tie.Need-same-length
 same-length c = search needs
 
--- src/lib.rt:27:1
 same-length-2 : tie.Need-same-length-2
 same-length-2 c = search needs
 
--- src/lib.rt:27:1
 returns-3 : tie.Need-returns-3
 returns-3 c =
     let a = c .before .before .before .before .before .before .before .before .before .before .before .before .before .args in

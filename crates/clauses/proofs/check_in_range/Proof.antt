@@ -3,7 +3,7 @@ use borrow.Author.Needs.{needs}
 use mathlib.Core.Path.{ap, _∙_}
 use Rattle.clauses.specs.declared.First.the-variants.{Nowhere}
 use Rattle.clauses.specs.Check.{placeSaid}
-use Rattle.clauses.proofs.Check.{InRange, Once, in-range, in-range-fits, checked-twice, checked-long, checked-fine}
+use Rattle.clauses.proofs.Check.{Once, in-range, in-range-fits, checked-twice, checked-long, checked-fine}
 use Rattle.clauses.proofs.check_in_range.Statement.{statement}
 use Rattle.clauses.proofs.check_in_range.Tie as tie
 

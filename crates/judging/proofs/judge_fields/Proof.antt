@@ -8,71 +8,49 @@ use Rattle.steps.proofs.Step.{checked-fine, checked-at}
 use Rattle.judging.proofs.Laws.{said-fine, said-range, said-twice, said-long, checkable, clause-stops, mappings-stop, load-asks, twice-stops, twice-left, loadable, unload-asks, brought-back}
 use Rattle.judging.proofs.judge_fields.Statement.{statement}
 use Rattle.judging.proofs.judge_fields.Tie as tie
-use Rattle.judging.proofs.judge_fields.Reads as reads
-use Rattle.judging.proofs.judge_fields.Lts as lts
-use Rattle.clauses.proofs.check_clause.Reads as check-clause-reads
-use Rattle.judging.proofs.judge_loaded.Reads as judge-loaded-reads
-use Rattle.judging.proofs.part.Reads as part-reads
-use Rattle.judging.proofs.stopped.Reads as stopped-reads
-use Rattle.mapping.proofs.load_witness.Reads as load-witness-reads
-use Rattle.mapping.proofs.unload_witness.Reads as unload-witness-reads
-use Rattle.steps.proofs.check_mappings.Reads as check-mappings-reads
 
--- src/lib.rt:103:11
 check-clause-requires : tie.Need-check-clause-requires
 check-clause-requires c κs = let p = c .before .before .before .before .before .before .pre in (checkable p, (omega (arith, p .ready .table-long), p .ready .table-zero))
 
--- src/lib.rt:104:28
 enum-known-place : tie.Need-enum-known-place
 enum-known-place c = search needs
 
--- src/lib.rt:105:13
 stopped-requires : tie.Need-stopped-requires
 stopped-requires c κs = search needs
 
--- src/lib.rt:105:13
 same-length : tie.Need-same-length
 same-length c = search needs
 
--- src/lib.rt:105:13
 returns : tie.Need-returns
 returns c =
     let p = c .before .before .before .before .before .before .before .before .before .before .before .before .before .pre in
     let d = c .before .before .before .before .before .before .check-clause .ensures in
     (rw (c .stopped .ensures) (clause-stops p (said-range _ _ _ (lie _ _ _ (p .fields)) _ _ (d .0) (c .before .before .place .given .1))), d .1)
 
--- src/lib.rt:107:28
 enum-known-place-2 : tie.Need-enum-known-place-2
 enum-known-place-2 c = search needs
 
--- src/lib.rt:108:13
 stopped-requires-2 : tie.Need-stopped-requires-2
 stopped-requires-2 c κs = search needs
 
--- src/lib.rt:108:13
 same-length-2 : tie.Need-same-length-2
 same-length-2 c = search needs
 
--- src/lib.rt:108:13
 returns-2 : tie.Need-returns-2
 returns-2 c =
     let p = c .before .before .before .before .before .before .before .before .before .before .before .before .before .pre in
     let d = c .before .before .before .before .before .before .check-clause .ensures in
     (rw (c .stopped2 .ensures) (clause-stops p (said-twice _ _ _ (lie _ _ _ (p .fields)) _ _ (d .0) (c .before .before .place2 .given .1))), d .1)
 
--- src/lib.rt:111:28
 enum-told : tie.Need-enum-told
 enum-told c = search needs
 
--- src/lib.rt:111:13
 stopped-requires-3 : tie.Need-stopped-requires-3
 stopped-requires-3 c κs = search needs
 
--- src/lib.rt:111:13
 same-length-3 : tie.Need-same-length-3
 same-length-3 c = search needs
 
--- src/lib.rt:111:13
 returns-3 : tie.Need-returns-3
 returns-3 c =
     let p = c .before .before .before .before .before .before .before .before .before .before .before .before .pre in
@@ -82,26 +60,21 @@ returns-3 c =
 enum-told-2 : tie.Need-enum-told-2
 enum-told-2 c = search needs
 
--- src/lib.rt:116:33
 check-mappings-requires : tie.Need-check-mappings-requires
 check-mappings-requires c κs =
     let p = c .before .before .before .before .before .before .before .before .before .before .before .before .pre in
     let i = lie _ _ _ (p .fields) in
     (i .witness-within, (i .witness-fours, p .ready .variables))
 
--- src/lib.rt:116:24
 enum-known-place-3 : tie.Need-enum-known-place-3
 enum-known-place-3 c = search needs
 
--- src/lib.rt:117:9
 stopped-requires-4 : tie.Need-stopped-requires-4
 stopped-requires-4 c κs = search needs
 
--- src/lib.rt:117:9
 same-length-4 : tie.Need-same-length-4
 same-length-4 c = search needs
 
--- src/lib.rt:117:9
 returns-4 : tie.Need-returns-4
 returns-4 c =
     let p = c .before .before .before .before .before .before .before .before .before .before .before .before .before .before .before .before .before .pre in
@@ -112,11 +85,9 @@ returns-4 c =
 enum-told-3 : tie.Need-enum-told-3
 enum-told-3 c = search needs
 
--- src/lib.rt:119:9
 part-requires : tie.Need-part-requires
 part-requires c κs = let i = lie _ _ _ (c .before .before .before .before .before .before .before .before .before .before .before .before .before .before .before .pre .fields) in i .witness-within
 
--- src/lib.rt:120:31
 load-witness-requires : tie.Need-load-witness-requires
 load-witness-requires c κs =
     let p = c .before .before .before .before .before .before .before .before .before .before .before .before .before .before .before .before .before .pre in
@@ -125,11 +96,9 @@ load-witness-requires c κs =
     let mapped = checked-fine ProofCode _ _ (c .before .before .before .before .check-mappings .ensures) (c .before .before .enum-told3 .given .1) in
     load-asks p fine mapped _ (c .before .part .ensures) _ (d .1)
 
--- src/lib.rt:120:26
 enum-known-i : tie.Need-enum-known-i
 enum-known-i c = search needs
 
--- src/lib.rt:121:44
 add-stopped : tie.Need-add-stopped
 add-stopped c =
     let p = c .before .before .before .before .before .before .before .before .before .before .before .before .before .before .before .before .before .before .before .before .before .before .before .before .pre in
@@ -137,15 +106,12 @@ add-stopped c =
     let h = c .before .before .before .before .before .before .load-witness .ensures .1 .0 _ (c .before .before .i .given .1) in
     omega (arith, i .witness-within, p .ready .proof-short)
 
--- src/lib.rt:121:9
 stopped-requires-5 : tie.Need-stopped-requires-5
 stopped-requires-5 c κs = search needs
 
--- src/lib.rt:121:9
 same-length-5 : tie.Need-same-length-5
 same-length-5 c = search needs
 
--- src/lib.rt:121:9
 returns-5 : tie.Need-returns-5
 returns-5 c =
     let p = c .before .before .before .before .before .before .before .before .before .before .before .before .before .before .before .before .before .before .before .before .before .before .before .before .before .pre in
@@ -160,7 +126,6 @@ returns-5 c =
 enum-told-4 : tie.Need-enum-told-4
 enum-told-4 c = search needs
 
--- src/lib.rt:123:9
 judge-loaded-requires : tie.Need-judge-loaded-requires
 judge-loaded-requires c κs =
     let p = c .before .before .before .before .before .before .before .before .before .before .before .before .before .before .before .before .before .before .before .before .before .before .before .pre in
@@ -170,7 +135,6 @@ judge-loaded-requires c κs =
     let l = c .before .before .before .before .before .load-witness .ensures in
     loadable p fine mapped _ (c .before .before .before .before .before .before .before .part .ensures) _ (l .0) _ _ (d .1) (l .1 .1) (c .before .enum-told4 .given .1)
 
--- src/lib.rt:124:5
 unload-witness-requires : tie.Need-unload-witness-requires
 unload-witness-requires c κs =
     let p = c .before .before .before .before .before .before .before .before .before .before .before .before .before .before .before .before .before .before .before .before .before .before .before .before .before .before .before .pre in
@@ -180,11 +144,9 @@ unload-witness-requires c κs =
     let l = c .before .before .before .before .before .before .before .before .before .load-witness .ensures in
     unload-asks p fine mapped _ (c .before .before .before .before .before .before .before .before .before .before .before .part .ensures) _ (l .0) _ _ (d .1) (l .1 .1) (c .before .before .before .before .before .enum-told4 .given .1) _ (c .before .before .before .judge-loaded .ensures .1)
 
--- src/lib.rt:88:1
 same-length-6 : tie.Need-same-length-6
 same-length-6 c = search needs
 
--- src/lib.rt:88:1
 returns-6 : tie.Need-returns-6
 returns-6 c =
     let p = c .before .before .before .before .before .before .before .before .before .before .before .before .before .before .before .before .before .before .before .before .before .before .before .before .before .before .before .before .before .before .pre in

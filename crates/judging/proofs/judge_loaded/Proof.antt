@@ -10,26 +10,16 @@ use Rattle.steps.proofs.Step.{checked-fine, checked-at}
 use Rattle.judging.proofs.Laws.{numbers-stop, delete-passes, number-stops, new, new-judged}
 use Rattle.judging.proofs.judge_loaded.Statement.{statement}
 use Rattle.judging.proofs.judge_loaded.Tie as tie
-use Rattle.judging.proofs.judge_loaded.Reads as reads
-use Rattle.judging.proofs.judge_loaded.Lts as lts
-use Rattle.judging.proofs.judge_new.Reads as judge-new-reads
-use Rattle.judging.proofs.part.Reads as part-reads
-use Rattle.judging.proofs.stopped.Reads as stopped-reads
-use Rattle.steps.proofs.check_numbers.Reads as check-numbers-reads
 
--- src/lib.rt:72:33
 check-numbers-requires : tie.Need-check-numbers-requires
 check-numbers-requires c κs = let i = lie _ _ _ (c .before .before .before .before .before .pre .fields) in (i .numbers-within, i .numbers-even)
 
--- src/lib.rt:72:24
 enum-known-place : tie.Need-enum-known-place
 enum-known-place c = search needs
 
--- src/lib.rt:73:9
 stopped-requires : tie.Need-stopped-requires
 stopped-requires c κs = search needs
 
--- src/lib.rt:73:9
 returns : tie.Need-returns
 returns c =
     let q = c .before .before .before .before .check-numbers .ensures (c .before .before .before .before .before .before .before .before .before .before .args .formula .now) in
@@ -38,58 +28,46 @@ returns c =
 enum-told : tie.Need-enum-told
 enum-told c = search needs
 
--- src/lib.rt:75:15
 shared-slice-read-tag : tie.Need-shared-slice-read-tag
 shared-slice-read-tag c = search needs
 
--- src/lib.rt:77:9
 returns-2 : tie.Need-returns-2
 returns-2 c =
     let q = c .before .before .before .before .check-numbers .ensures (c .before .before .before .before .before .before .before .before .before .before .args .formula .now) in
     (delete-passes (c .before .before .before .before .before .before .before .before .before .before .pre) (checked-fine NumberNotLive _ _ q (c .before .before .enum-told .given .1)) (c .if1 .taken), refl)
 
--- src/lib.rt:80:9
 stopped-requires-2 : tie.Need-stopped-requires-2
 stopped-requires-2 c κs = search needs
 
--- src/lib.rt:80:9
 returns-3 : tie.Need-returns-3
 returns-3 c =
     let q = c .before .before .before .before .before .before .check-numbers .ensures (c .before .before .before .before .before .before .before .before .before .before .before .before .args .formula .now) in
     (rw (c .stopped2 .ensures) (number-stops (c .before .before .before .before .before .before .before .before .before .before .before .before .pre) (checked-fine NumberNotLive _ _ q (c .before .before .before .before .enum-told .given .1)) (c .before .before .if1 .left) (c .before .if2 .taken)), refl)
 
--- src/lib.rt:83:16
 sub-used : tie.Need-sub-used
 sub-used c = search needs
 
--- src/lib.rt:83:16
 part-used-start : tie.Need-part-used-start
 part-used-start c = search needs
 
--- src/lib.rt:83:16
 part-used-end : tie.Need-part-used-end
 part-used-end c = search needs
 
--- src/lib.rt:84:42
 part-requires : tie.Need-part-requires
 part-requires c κs = let i = lie _ _ _ (c .before .before .before .before .before .before .before .before .before .before .before .before .before .pre .fields) in i .clause-within
 
--- src/lib.rt:84:58
 part-requires-2 : tie.Need-part-requires-2
 part-requires-2 c κs = let i = lie _ _ _ (c .before .before .before .before .before .before .before .before .before .before .before .before .before .before .pre .fields) in i .numbers-within
 
--- src/lib.rt:84:5
 judge-new-requires : tie.Need-judge-new-requires
 judge-new-requires c κs =
     let q = c .before .before .before .before .before .before .before .before .before .before .check-numbers .ensures (c .before .before .before .before .before .before .before .before .before .before .before .before .before .before .before .before .args .formula .now) in
     let h : c .before .before .before .before .before .before .before .before .before .before .before .before .before .before .before .before .args .next < 16384 = omega arith in
     new (c .before .before .before .before .before .before .before .before .before .before .before .before .before .before .before .before .pre) (checked-fine NumberNotLive _ _ q (c .before .before .before .before .before .before .before .before .enum-told .given .1)) (c .before .before .before .before .before .before .if1 .left) h _ _ (c .before .before .part .ensures) (c .before .part2 .ensures)
 
--- src/lib.rt:57:1
 same-length : tie.Need-same-length
 same-length c = search needs
 
--- src/lib.rt:57:1
 returns-4 : tie.Need-returns-4
 returns-4 c =
     let q = c .before .before .before .before .before .before .before .before .before .before .before .before .before .check-numbers .ensures (c .before .before .before .before .before .before .before .before .before .before .before .before .before .before .before .before .before .before .before .args .formula .now) in

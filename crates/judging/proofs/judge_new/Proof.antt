@@ -5,47 +5,33 @@ use native.Mathlib.Omega.{arith}
 use Rattle.judging.proofs.Conditions.{same-tag, of-tag}
 use Rattle.judging.proofs.judge_new.Statement.{statement}
 use Rattle.judging.proofs.judge_new.Tie as tie
-use Rattle.judging.proofs.judge_new.Reads as reads
-use Rattle.judging.proofs.judge_new.Lts as lts
-use Rattle.judging.proofs.judge_rup.Reads as judge-rup-reads
-use Rattle.judging.proofs.judge_sr.Reads as judge-sr-reads
-use Rattle.judging.proofs.judge_wsr.Reads as judge-wsr-reads
 
--- src/lib.rt:132:9
 judge-rup-requires : tie.Need-judge-rup-requires
 judge-rup-requires c κs = same-tag (c .before .before .before .before .before .before .before .before .pre) 0x11 (c .before .if1 .taken)
 
--- src/lib.rt:132:9
 same-length : tie.Need-same-length
 same-length c = search needs
 
--- src/lib.rt:132:9
 returns : tie.Need-returns
 returns c = let d = c .before .before .judge-rup .ensures in (of-tag (c .before .before .before .before .before .before .before .before .before .before .before .pre) 0x11 (c .before .before .before .before .if1 .taken) _ (d .0), d .1)
 
--- src/lib.rt:135:9
 judge-sr-requires : tie.Need-judge-sr-requires
 judge-sr-requires c κs = same-tag (c .before .before .before .before .before .before .before .before .before .pre) 0x12 (c .before .if2 .taken)
 
--- src/lib.rt:135:9
 same-length-2 : tie.Need-same-length-2
 same-length-2 c = search needs
 
--- src/lib.rt:135:9
 returns-2 : tie.Need-returns-2
 returns-2 c = let d = c .before .before .judge-sr .ensures in (of-tag (c .before .before .before .before .before .before .before .before .before .before .before .before .pre) 0x12 (c .before .before .before .before .if2 .taken) _ (d .0), d .1)
 
--- src/lib.rt:137:5
 judge-wsr-requires : tie.Need-judge-wsr-requires
 judge-wsr-requires c κs =
     let n = c .before .before .before .before .before .before .before .before .before .pre in
     same-tag n 0x13 (omega (arith, n .from, n .to))
 
--- src/lib.rt:116:1
 same-length-3 : tie.Need-same-length-3
 same-length-3 c = search needs
 
--- src/lib.rt:116:1
 returns-3 : tie.Need-returns-3
 returns-3 c =
     let n = c .before .before .before .before .before .before .before .before .before .before .before .before .pre in

@@ -4,32 +4,22 @@ use borrow.Author.Needs.{needs}
 use Rattle.judging.proofs.Conditions.{rup-passed, rup-stopped}
 use Rattle.judging.proofs.judge_rup.Statement.{statement}
 use Rattle.judging.proofs.judge_rup.Tie as tie
-use Rattle.judging.proofs.judge_rup.Reads as reads
-use Rattle.judging.proofs.judge_rup.Lts as lts
-use Rattle.conditions.proofs.is_rup.Reads as is-rup-reads
-use Rattle.judging.proofs.stopped.Reads as stopped-reads
 
--- src/lib.rt:54:8
 is-rup-requires : tie.Need-is-rup-requires
 is-rup-requires c κs = search needs
 
--- src/lib.rt:55:9
 same-length : tie.Need-same-length
 same-length c = search needs
 
--- src/lib.rt:55:9
 returns : tie.Need-returns
 returns c = (rup-passed (c .before .before .before .before .before .before .before .before .before .before .before .pre) (c .before .before .before .is-rup .ensures .0) (c .if1 .taken), c .before .before .before .is-rup .ensures .1)
 
--- src/lib.rt:57:5
 stopped-requires : tie.Need-stopped-requires
 stopped-requires c κs = search needs
 
--- src/lib.rt:40:1
 same-length-2 : tie.Need-same-length-2
 same-length-2 c = search needs
 
--- src/lib.rt:40:1
 returns-2 : tie.Need-returns-2
 returns-2 c =
     (rw (c .stopped .ensures) (rup-stopped (c .before .before .before .before .before .before .before .before .before .before .before .before .pre) (c .before .before .before .before .is-rup .ensures .0) (c .before .if1 .left)), c .before .before .before .before .is-rup .ensures .1)

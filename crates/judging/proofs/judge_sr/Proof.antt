@@ -5,53 +5,38 @@ use mathlib.Core.Path.{_∙_}
 use Rattle.judging.proofs.Conditions.{sr-not-trivialised, sr-passed, sr-stopped, lowest-asks}
 use Rattle.judging.proofs.judge_sr.Statement.{statement}
 use Rattle.judging.proofs.judge_sr.Tie as tie
-use Rattle.judging.proofs.judge_sr.Reads as reads
-use Rattle.judging.proofs.judge_sr.Lts as lts
-use Rattle.conditions.proofs.lowest_failing.Reads as lowest-failing-reads
-use Rattle.judging.proofs.stopped.Reads as stopped-reads
-use Rattle.loading.proofs.trivialises.Reads as trivialises-reads
 
--- src/lib.rt:75:9
 trivialises-requires : tie.Need-trivialises-requires
 trivialises-requires c κs =
     let s = c .before .before .before .before .before .before .before in
     (s .args .vars, (s .pre .table, (s .pre .inward, s .pre .new .codes)))
 
--- src/lib.rt:76:9
 stopped-requires : tie.Need-stopped-requires
 stopped-requires c κs = search needs
 
--- src/lib.rt:76:9
 same-length : tie.Need-same-length
 same-length c = search needs
 
--- src/lib.rt:76:9
 returns : tie.Need-returns
 returns c =
     let d = c .before .before .before .before .trivialises .ensures in
     (rw (c .stopped .ensures) (sr-not-trivialised (c .before .before .before .before .before .before .before .before .before .before .before .before .pre) (d .0) (c .before .if1 .taken)), d .1)
 
--- src/lib.rt:78:11
 lowest-failing-requires : tie.Need-lowest-failing-requires
 lowest-failing-requires c κs = lowest-asks (c .before .before .before .before .before .before .before .before .before .before .before .before .pre) _ (c .before .before .before .before .trivialises .ensures .1)
 
--- src/lib.rt:79:21
 enum-known-n : tie.Need-enum-known-n
 enum-known-n c = search needs
 
--- src/lib.rt:79:27
 stopped-requires-2 : tie.Need-stopped-requires-2
 stopped-requires-2 c κs = search needs
 
--- src/lib.rt:80:29
 enum-told : tie.Need-enum-told
 enum-told c = search needs
 
--- src/lib.rt:61:1
 same-length-2 : tie.Need-same-length-2
 same-length-2 c = search needs
 
--- src/lib.rt:61:1
 returns-2 : tie.Need-returns-2
 returns-2 c =
     let d = c .before .before .before .before .before .before .before .before .before .before .before .trivialises .ensures in
@@ -60,11 +45,9 @@ returns-2 c =
       l .1 ∙ d .1,
     )
 
--- src/lib.rt:61:1
 same-length-3 : tie.Need-same-length-3
 same-length-3 c = search needs
 
--- src/lib.rt:61:1
 returns-3 : tie.Need-returns-3
 returns-3 c =
     let d = c .before .before .before .before .before .before .before .before .before .trivialises .ensures in

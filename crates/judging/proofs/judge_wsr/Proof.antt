@@ -5,29 +5,19 @@ use mathlib.Core.Path.{_∙_}
 use Rattle.judging.proofs.Conditions.{wsr-stopped, wsr-passed, wsr-new-stopped, passes-asks}
 use Rattle.judging.proofs.judge_wsr.Statement.{statement}
 use Rattle.judging.proofs.judge_wsr.Tie as tie
-use Rattle.judging.proofs.judge_wsr.Reads as reads
-use Rattle.judging.proofs.judge_wsr.Lts as lts
-use Rattle.conditions.proofs.lowest_failing.Reads as lowest-failing-reads
-use Rattle.conditions.proofs.passes.Reads as passes-reads
-use Rattle.judging.proofs.stopped.Reads as stopped-reads
 
--- src/lib.rt:99:29
 lowest-failing-requires : tie.Need-lowest-failing-requires
 lowest-failing-requires c κs = search needs
 
--- src/lib.rt:99:24
 enum-known-n : tie.Need-enum-known-n
 enum-known-n c = search needs
 
--- src/lib.rt:108:9
 stopped-requires : tie.Need-stopped-requires
 stopped-requires c κs = search needs
 
--- src/lib.rt:108:9
 same-length : tie.Need-same-length
 same-length c = search needs
 
--- src/lib.rt:108:9
 returns : tie.Need-returns
 returns c =
     let l = c .before .before .before .before .before .before .lowest-failing .ensures in
@@ -36,30 +26,24 @@ returns c =
 enum-told : tie.Need-enum-told
 enum-told c = search needs
 
--- src/lib.rt:110:8
 passes-requires : tie.Need-passes-requires
 passes-requires c κs = passes-asks (c .before .before .before .before .before .before .before .before .before .before .before .before .before .pre) _ (c .before .before .before .before .before .lowest-failing .ensures .1)
 
--- src/lib.rt:111:9
 same-length-2 : tie.Need-same-length-2
 same-length-2 c = search needs
 
--- src/lib.rt:111:9
 returns-2 : tie.Need-returns-2
 returns-2 c =
     let l = c .before .before .before .before .before .before .before .before .before .lowest-failing .ensures in
     let d = c .before .before .before .passes .ensures in
     (wsr-passed (c .before .before .before .before .before .before .before .before .before .before .before .before .before .before .before .before .before .pre) _ (l .0) (c .before .before .before .before .before .enum-told .given .1) _ (l .1) (d .0) (c .if1 .taken), d .1 ∙ l .1)
 
--- src/lib.rt:113:5
 stopped-requires-2 : tie.Need-stopped-requires-2
 stopped-requires-2 c κs = search needs
 
--- src/lib.rt:85:1
 same-length-3 : tie.Need-same-length-3
 same-length-3 c = search needs
 
--- src/lib.rt:85:1
 returns-3 : tie.Need-returns-3
 returns-3 c =
     let l = c .before .before .before .before .before .before .before .before .before .before .lowest-failing .ensures in

@@ -2,26 +2,19 @@ use borrow.Author.Needs.{needs}
 use Rattle.judging.proofs.Laws.{part-payload}
 use Rattle.judging.proofs.part.Statement.{statement}
 use Rattle.judging.proofs.part.Tie as tie
-use Rattle.judging.proofs.part.Reads as reads
-use Rattle.judging.proofs.part.Lts as lts
 
--- src/lib.rt:34:15
 add-end : tie.Need-add-end
 add-end c = search needs
 
--- src/lib.rt:35:5
 sub-result : tie.Need-sub-result
 sub-result c = search needs
 
--- src/lib.rt:35:5
 part-result-start : tie.Need-part-result-start
 part-result-start c = search needs
 
--- src/lib.rt:35:5
 part-result-end : tie.Need-part-result-end
 part-result-end c = search needs
 
--- src/lib.rt:29:1
 returns : tie.Need-returns
 returns c = part-payload (c .before .before .args .s .now) (c .before .before .args .e)
 

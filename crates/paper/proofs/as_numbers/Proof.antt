@@ -3,35 +3,25 @@ use mathlib.Core.Path.{sym, ap}
 use Rattle.paper.specs.Answers.{numbersOf}
 use Rattle.paper.proofs.as_numbers.Statement.{statement}
 use Rattle.paper.proofs.as_numbers.Tie as tie
-use Rattle.paper.proofs.as_numbers.Reads as reads
-use Rattle.paper.proofs.as_numbers.Lts as lts
-use Rattle.paper.proofs.reason_number.Reads as reason-number-reads
 
--- src/lib.rt:71:26
 enum-known-v : tie.Need-enum-known-v
 enum-known-v c = search needs
 
--- src/lib.rt:77:23
 enum-known-v-2 : tie.Need-enum-known-v-2
 enum-known-v-2 c = search needs
 
--- src/lib.rt:83:26
 enum-known-v-3 : tie.Need-enum-known-v-3
 enum-known-v-3 c = search needs
 
--- src/lib.rt:87:25
 reason-number-requires : tie.Need-reason-number-requires
 reason-number-requires c κs = search needs
 
--- src/lib.rt:67:1
 returns : tie.Need-returns
 returns c = sym (ap numbersOf (c .before .v .given .1))
 
--- src/lib.rt:67:1
 returns-2 : tie.Need-returns-2
 returns-2 c = sym (ap numbersOf (c .before .v2 .given .1))
 
--- src/lib.rt:67:1
 returns-3 : tie.Need-returns-3
 returns-3 c = rw (c .reason-number .ensures) (sym (ap numbersOf (c .before .before .v3 .given .1)))
 
