@@ -4,7 +4,7 @@ use mathlib.Core.Path.{_≡_}
 use mathlib.Core.List.{List}
 use lib.ListN.{length}
 use Rattle.paper.specs.Files.{File}
-use Rattle.paper.proofs.Valid.{Kept}
+use Rattle.paper.specs.Valid.{Kept}
 use Rattle.lookup.specs.Clause.{ClauseTable}
 use Rattle.lookup.specs.Live.{live}
 use Rattle.table.specs.Table.{Zero}

@@ -10,7 +10,7 @@ use lib.ListN.{length}
 use Rattle.paper.specs.Atoms.{complement, _∈_, Clause, Formula, Witness}
 use Rattle.paper.specs.Files.{File}
 use Rattle.paper.specs.Conditions.{image, RUP, Trivialises, under, Passes, trivial, opposed, follows}
-use Rattle.paper.proofs.Valid.{Codes}
+use Rattle.paper.specs.Valid.{Codes}
 use Rattle.lookup.specs.Live.{live}
 use Rattle.table.specs.Table.{imageOf, clearValues}
 use Rattle.table.proofs.Kept.{kept-trans, cleared}

@@ -12,7 +12,7 @@ use Rattle.paper.specs.Atoms.{_∈_, Clause, Formula, Live, Witness}
 use Rattle.paper.specs.Files.{File, two, codes}
 use Rattle.paper.specs.Conditions.{Passes}
 use Rattle.paper.proofs.Lists.{eqb-yes, eqb-no}
-use Rattle.paper.proofs.Valid.{Codes, Listed}
+use Rattle.paper.specs.Valid.{Codes, Listed}
 use Rattle.paper.proofs.Scan.{codes-next, codes-end}
 use Rattle.lookup.specs.Clause.{Entered, clauseBytes}
 use Rattle.lookup.specs.Live.{live}

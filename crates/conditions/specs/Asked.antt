@@ -7,7 +7,7 @@ use lib.ListN.{length}
 use Rattle.paper.specs.Atoms.{_∈_, Clause, Formula, Live, Witness}
 use Rattle.paper.specs.Files.{File}
 use Rattle.paper.specs.Conditions.{Passes, Lowest}
-use Rattle.paper.proofs.Valid.{Codes, Apart, Valid}
+use Rattle.paper.specs.Valid.{Codes, Apart, Valid}
 use Rattle.lookup.specs.Clause.{ClauseTable}
 use Rattle.lookup.specs.Live.{live}
 use Rattle.loading.specs.Loading.{Ready}

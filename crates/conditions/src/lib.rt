@@ -7,7 +7,7 @@ ghost use lib.ListN.{length, drop};
 ghost use Rattle.paper.specs.Atoms.{Witness};
 ghost use Rattle.paper.specs.Files.{codes};
 ghost use Rattle.paper.specs.Conditions.{RUP, Passes};
-ghost use Rattle.paper.proofs.Valid.{Codes, Listed};
+ghost use Rattle.paper.specs.Valid.{Codes, Listed};
 ghost use Rattle.lookup.specs.Live.{live};
 ghost use Rattle.loading.specs.Loading.{Inward, Images, Decides};
 ghost use Rattle.conditions.specs.Asked.{Asked, Finds, first-is};

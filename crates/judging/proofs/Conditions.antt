@@ -11,7 +11,7 @@ use Rattle.paper.specs.Files.{File, codes}
 use Rattle.paper.specs.Conditions.{RUP, Trivialises, Passes}
 use Rattle.paper.specs.Refusals.{to-step}
 use Rattle.paper.specs.Answers.{rup, not-rup, sr, not-trivialised, sr-lowest, wsr, wsr-lowest, wsr-new}
-use Rattle.paper.proofs.Valid.{Listed}
+use Rattle.paper.specs.Valid.{Listed}
 use Rattle.lookup.specs.Live.{live}
 use Rattle.loading.specs.Loading.{Images, Inward, Decides}
 use Rattle.conditions.specs.Asked.{Asked, Finds}

@@ -19,8 +19,8 @@ use Rattle.paper.specs.Files.{File, ok, bad, _>>_, need, payload, past, codes, 
 use Rattle.paper.specs.Conditions.{without, after}
 use Rattle.paper.specs.Refusals.{each, no-two, check-clause, read-fields, check-mappings, check-numbers}
 use Rattle.paper.specs.Answers.{Outcome, taken, Judged, deleted}
-use Rattle.paper.proofs.Lists.{Distinct, eqb-same, eqb-other, leb-within}
-use Rattle.paper.proofs.Valid.{Codes, Apart, Mapping, Listed}
+use Rattle.paper.proofs.Lists.{eqb-same, eqb-other, leb-within}
+use Rattle.paper.specs.Valid.{Distinct, Codes, Apart, Mapping, Listed}
 use Rattle.paper.proofs.Reading.{Then, Ranged, check-clause-then, check-mappings-then, no-two-then, check-numbers-then}
 use Rattle.paper.proofs.Scan.{length-payload}
 use Rattle.lookup.specs.Clause.{proofWord, ClauseTable}

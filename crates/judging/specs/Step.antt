@@ -14,8 +14,8 @@ use Rattle.paper.specs.Files.{File, ok, bad, payload, codes, mappings, Step}
 use Rattle.paper.specs.Conditions.{without, after}
 use Rattle.paper.specs.Refusals.{no-two, check-clause, read-fields, check-mappings, to-step, read-step}
 use Rattle.paper.specs.Answers.{Outcome, taken, stops, Judged}
-use Rattle.paper.proofs.Valid.{Kept, Mapping, Listed}
-use Rattle.paper.proofs.Valid as valid
+use Rattle.paper.specs.Valid.{Kept, Mapping, Listed}
+use Rattle.paper.specs.Valid as valid
 use Rattle.lookup.specs.Clause.{proofWord, ClauseTable}
 use Rattle.lookup.specs.Live.{live}
 use Rattle.table.specs.Table.{Zero}

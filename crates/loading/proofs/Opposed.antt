@@ -12,7 +12,7 @@ use Rattle.paper.specs.Atoms.{complement, _∈_, Clause, Formula, Witness}
 use Rattle.paper.specs.Conditions.{image, given, under, Trivialises, to-true, to-complements}
 use Rattle.paper.specs.Sweeps.{Values, is-true, put, State}
 use Rattle.paper.proofs.Lists.{complement-twice, complement-half, complement-inj, eqb-yes, eqb-other, map-in, map-out, under-in, under-out, under-not-false}
-use Rattle.paper.proofs.Valid.{Codes, Apart}
+use Rattle.paper.specs.Valid.{Codes, Apart}
 use Rattle.paper.proofs.Values.{true-at, never-both, put-out, put-in, put-keep}
 use Rattle.paper.proofs.Propagation.{Fits, Loaded}
 use Rattle.table.specs.Table.{Kept, valueAt, imageOf, values}

@@ -13,7 +13,7 @@ use Rattle.paper.specs.Atoms.{complement, _∈_, Clause}
 use Rattle.paper.specs.Conditions.{Derived, given, unit, Clash, both, broken}
 use Rattle.paper.specs.Sweeps.{Values, is-true, put, State, assume, blank}
 use Rattle.paper.proofs.Lists.{map-out}
-use Rattle.paper.proofs.Valid.{Codes}
+use Rattle.paper.specs.Valid.{Codes}
 use Rattle.paper.proofs.Values.{true-at, at-true, never-both, length-assume}
 use Rattle.paper.proofs.Propagation.{assuming, assume-none, assume-clash, assume-next, Sound, assume-sound, blank-sound, blank-fits, assume-all}
 use Rattle.table.specs.Table.{valueAt, values}

@@ -9,7 +9,7 @@ use native.Mathlib.Omega.{arith}
 use lib.ListN.{length}
 use Rattle.paper.specs.Atoms.{complement, _∈_, Clause, Witness}
 use Rattle.paper.specs.Conditions.{image, Trivialises, under}
-use Rattle.paper.proofs.Valid.{Codes}
+use Rattle.paper.specs.Valid.{Codes}
 use Rattle.paper.proofs.Judging.{Atoms, image-range}
 use Rattle.table.specs.Table.{imageOf}
 use Rattle.loading.specs.declared.Assumed.the-variants.{Passes, Open}

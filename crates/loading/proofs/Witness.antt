@@ -10,8 +10,8 @@ use native.Mathlib.Decide.{ℕ-discrete, decLt}
 use lib.Dec.{eqb}
 use Rattle.paper.specs.Atoms.{complement, _∈_, Witness}
 use Rattle.paper.specs.Conditions.{look, image}
-use Rattle.paper.proofs.Lists.{Distinct, eqb-same, eqb-other}
-use Rattle.paper.proofs.Valid.{Mapping}
+use Rattle.paper.proofs.Lists.{eqb-same, eqb-other}
+use Rattle.paper.specs.Valid.{Distinct, Mapping}
 use Rattle.table.specs.Table.{imageAt, imageOf}
 use Rattle.table.proofs.Laws.{image-even}
 use Rattle.loading.specs.Loading.{Inward, Images}

@@ -6,7 +6,7 @@ ghost use lib.ListN.{length};
 ghost use Rattle.paper.specs.Atoms.{Witness};
 ghost use Rattle.paper.specs.Files.{codes};
 ghost use Rattle.paper.specs.Conditions.{Trivialises};
-ghost use Rattle.paper.proofs.Valid.{Codes};
+ghost use Rattle.paper.specs.Valid.{Codes};
 ghost use Rattle.loading.specs.Loading.{Storable, assumed, imaged, unsetClause, unsetImages, Ready, Inward, Images, Decides};
 
 // Makes the complement of each literal of the clause true.

@@ -16,7 +16,8 @@ use Rattle.paper.specs.Atoms.{complement, _∈_, Witness}
 use Rattle.paper.specs.Files.{Read, ok, bad, _>>_, need}
 use Rattle.paper.specs.Conditions.{look, image, is-in}
 use Rattle.paper.specs.Refusals.{no-two, between, check-mappings}
-use Rattle.paper.proofs.Lists.{Distinct, and-yes, or-no, leb-yes, eqb-no}
+use Rattle.paper.specs.Valid.{Distinct}
+use Rattle.paper.proofs.Lists.{and-yes, or-no, leb-yes, eqb-no}
 use Rattle.table.specs.Table.{Kept, valueAt, mappedAt, imageAt, imageOf, setImage, Zero}
 use Rattle.table.proofs.Laws.{length-setImage, image-unmapped, image-same, image-other, mapped-same, mapped-other, value-setImage}
 use Rattle.table.proofs.Kept.{kept-refl, same-table}

@@ -16,7 +16,7 @@ use Rattle.paper.specs.Files.{File, Read, ok, bad, Step}
 use Rattle.paper.specs.Refusals.{read-formula, read-step}
 use Rattle.paper.specs.Answers.{refused, Outcome, taken, stops, Judged, Steps, refuted, held, unread, judged, goes-on, Within, Answer, work-short, file-long, formula-bad, proof-judged}
 use Rattle.paper.proofs.Lists.{leb-yes, leb-no, or-yes, or-no}
-use Rattle.paper.proofs.Valid.{Kept}
+use Rattle.paper.specs.Valid.{Kept}
 use Rattle.paper.proofs.Reading.{Then, Step-read, read-step-seen, Formula-read, read-formula-kept}
 use Rattle.paper.proofs.Judging.{take-step, take-step-judged, judged-once, judged-kept}
 

@@ -15,7 +15,7 @@ use Rattle.paper.specs.Conditions.{look, image, RUP, Trivialises, to-tru
 use Rattle.paper.specs.Sweeps.{propagate}
 use Rattle.paper.specs.Answers.{Outcome, taken, stops, Judged, rup, not-rup, sr, not-trivialised, sr-lowest, wsr, wsr-lowest, wsr-new, deleted}
 use Rattle.paper.proofs.Lists.{eqb-yes, eqb-no, or-yes, or-no, is-in-yes, is-in-no, map-out, under-out, under-not-false, without-out}
-use Rattle.paper.proofs.Valid.{Codes, Apart, Valid, Rising, Kept, Seen}
+use Rattle.paper.specs.Valid.{Codes, Apart, Valid, Rising, Kept, Seen}
 use Rattle.paper.proofs.Propagation.{propagate-sound, propagate-complete}
 
 -- 1. The tests.

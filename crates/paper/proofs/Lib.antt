@@ -1,6 +1,5 @@
 pub mod Order
 pub mod Lists
-pub mod Valid
 pub mod Values
 pub mod Propagation
 pub mod Scan

@@ -10,6 +10,7 @@ use native.Mathlib.Decide.{decLt}
 use lib.Dec.{T, eqb, eqb→eq, eqb-refl, leb, leb→le, le→leb}
 use Rattle.paper.specs.Atoms.{complement, _∈_, Clause, Formula, Live, Witness}
 use Rattle.paper.specs.Conditions.{image, once, is-in, under, without, after}
+use Rattle.paper.specs.Valid.{Distinct}
 
 -- complement exchanges 2k and 2k + 1
 pub complement-twice : (l : ℕ) → complement (complement l) ≡ l
@@ -41,11 +42,6 @@ complement-inj k l e = sym (complement-twice k) ∙ ap complement e ∙ compleme
 
 pub same-half : (k l : ℕ) → k / 2 ≡ l / 2 → k % 2 ≡ l % 2 → k ≡ l
 same-half k l h m = omega arith
-
--- no element twice
-abbrev pub Distinct : List ℕ → Type 0
-Distinct [] = Unit {0}
-Distinct (l ∷ D) = (¬ (l ∈ D)) × Distinct D
 
 -- the tests, as facts
 pub eqb-yes : (a b : ℕ) → eqb a b ≡ true → a ≡ b

@@ -13,8 +13,8 @@ use lib.Seq.{getD-set-other}
 use Rattle.paper.specs.Atoms.{complement, _∈_, Clause, Formula, Live}
 use Rattle.paper.specs.Conditions.{Derived, given, unit, Clash, both, broken}
 use Rattle.paper.specs.Sweeps.{Values, is-true, put, not-false, State, visit, visits, sweep, sweeps-to, assume, blank, propagate}
-use Rattle.paper.proofs.Lists.{complement-half, complement-mod, Distinct, eqb-same, eqb-other, map-in}
-use Rattle.paper.proofs.Valid.{Codes, Apart, Valid}
+use Rattle.paper.proofs.Lists.{complement-half, complement-mod, eqb-same, eqb-other, map-in}
+use Rattle.paper.specs.Valid.{Distinct, Codes, Apart, Valid}
 use Rattle.paper.proofs.Values.{when-true, when-false, true-at, not-true-at, never-both, put-out, put-in, put-keep, length-put, not-false-out, not-false-in, not-false-distinct}
 
 -- 1. The definitions by cases: what a loop of the code does in a turn.

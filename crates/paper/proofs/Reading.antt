@@ -16,8 +16,8 @@ use Rattle.paper.specs.Atoms.{_∈_, Clause, Formula, Live, Witness}
 use Rattle.paper.specs.Files.{File, Read, ok, bad, _>>=_, _>>_, need, two, payload, past, field, four, even, fours, codes, mappings, Step, RUP-step, SR-step, WSR-step, DELETE-step}
 use Rattle.paper.specs.Conditions.{is-in}
 use Rattle.paper.specs.Refusals.{each, no-two, between, check-clause, read-clauses, read-formula, field-if, read-fields, check-mappings, is-live, check-numbers, to-step, read-step}
-use Rattle.paper.proofs.Lists.{Distinct, eqb-yes, eqb-other, and-yes, leb-yes, is-in-no}
-use Rattle.paper.proofs.Valid.{Codes, Apart, Valid, Rising, Kept, Mapping, Listed, New, Seen}
+use Rattle.paper.proofs.Lists.{eqb-yes, eqb-other, and-yes, leb-yes, is-in-no}
+use Rattle.paper.specs.Valid.{Distinct, Codes, Apart, Valid, Rising, Kept, Mapping, Listed, New, Seen}
 
 -- what holds of what is read, where it is read
 abbrev pub Then : {A : Type 0} → (A → Type 0) → Read A → Type 0

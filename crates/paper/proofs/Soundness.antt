@@ -11,7 +11,7 @@ use lib.Dec.{eqb}
 use Rattle.paper.specs.Atoms.{complement, _∈_, Clause, Formula, Live, Witness}
 use Rattle.paper.specs.Conditions.{Derived, given, unit, Clash, both, broken, RUP, look, image, Trivialises, to-true, to-complements, under, Passes, trivial, opposed, follows, SR, WSR, without, after}
 use Rattle.paper.specs.Stowages.{Stowage, variable, value, moved, meets, Meets, carried}
-use Rattle.paper.proofs.Valid.{Codes}
+use Rattle.paper.specs.Valid.{Codes}
 use Rattle.paper.proofs.Judging.{look-range}
 use Rattle.paper.proofs.Lists.{complement-half, complement-mod, eqb-yes, eqb-no, eqb-same, eqb-other, map-out, under-out, without-out}
 

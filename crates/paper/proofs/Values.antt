@@ -12,7 +12,8 @@ use lib.ListN.{length, getD, set, length-set, List·getD-eq-default}
 use lib.Seq.{getD-set-same, getD-set-other, set-out}
 use Rattle.paper.specs.Atoms.{complement, _∈_, Clause}
 use Rattle.paper.specs.Sweeps.{Values, is-true, put, not-false, State, assume}
-use Rattle.paper.proofs.Lists.{complement-half, complement-mod, same-half, eqb-yes, eqb-no, eqb-same, Distinct}
+use Rattle.paper.specs.Valid.{Distinct}
+use Rattle.paper.proofs.Lists.{complement-half, complement-mod, same-half, eqb-yes, eqb-no, eqb-same}
 
 -- the branch that a test picks
 pub when-true : {A : Type 0} (b : Bool) (x y : A) → b ≡ true → elim b [ true ↦ x | false ↦ y ] ≡ x

@@ -7,3 +7,5 @@ pub mod Sweeps
 pub mod Refusals
 pub mod Answers
 pub mod Line
+-- what the reading has seen of the files, kept from step to step: inner contracts cite it, the promise does not
+pub mod Valid

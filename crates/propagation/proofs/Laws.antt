@@ -13,7 +13,7 @@ use Rattle.paper.specs.Atoms.{_∈_, Clause, Formula, Live}
 use Rattle.paper.specs.Files.{File, codes}
 use Rattle.paper.specs.Conditions.{Clash}
 use Rattle.paper.specs.Sweeps.{Values, is-true, put, not-false, State, visit, visits, sweep, sweeps-to}
-use Rattle.paper.proofs.Valid.{Codes, Valid}
+use Rattle.paper.specs.Valid.{Codes, Valid}
 use Rattle.paper.proofs.Values.{not-false-out}
 use Rattle.paper.proofs.Propagation.{sweeping, visit-none, visit-true, visit-set, visit-more, visits-end, visits-clashed, visits-next, sweep-visits, sweeps-none, sweeps-clash, sweeps-last, sweeps-next, Loaded, sweeps-iff}
 use Rattle.lookup.specs.Clause.{ClauseTable}

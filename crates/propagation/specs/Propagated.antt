@@ -7,7 +7,7 @@ use lib.ListN.{length}
 use Rattle.paper.specs.Atoms.{Clause, Live}
 use Rattle.paper.specs.Files.{File}
 use Rattle.paper.specs.Sweeps.{sweeps-to}
-use Rattle.paper.proofs.Valid.{Codes}
+use Rattle.paper.specs.Valid.{Codes}
 use Rattle.lookup.specs.Clause.{ClauseTable}
 use Rattle.lookup.specs.Live.{live}
 use Rattle.table.specs.Table.{valueAt, Kept}

@@ -17,7 +17,7 @@ use Rattle.paper.specs.Files.{File, Read, ok, _>>_, need, two, payload, field, 
 use Rattle.paper.specs.Conditions.{is-in, without, after}
 use Rattle.paper.specs.Refusals.{is-live, check-numbers}
 use Rattle.paper.proofs.Lists.{leb-yes, leb-within, leb-beyond}
-use Rattle.paper.proofs.Valid.{Listed}
+use Rattle.paper.specs.Valid.{Listed}
 use Rattle.paper.proofs.Scan.{part-end, part-next}
 use Rattle.lookup.specs.Clause.{proofWord, Entered, cleared, ClauseTable}
 use Rattle.lookup.specs.Live.{live}

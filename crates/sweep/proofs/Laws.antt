@@ -13,7 +13,7 @@ use Rattle.paper.specs.Atoms.{Clause, Formula, Live}
 use Rattle.paper.specs.Files.{File, codes, two}
 use Rattle.paper.specs.Sweeps.{not-false, State, visit, visits, sweep}
 use Rattle.paper.proofs.Lists.{eqb-yes, eqb-no, eqb-same, eqb-other}
-use Rattle.paper.proofs.Valid.{Codes}
+use Rattle.paper.specs.Valid.{Codes}
 use Rattle.paper.proofs.Propagation.{clashing, setting, visit-none, visits-end, visits-clashed, visits-next, sweep-visits}
 use Rattle.paper.proofs.Scan.{true-by-value, not-true-by-value, not-false-none, visit-first-true, visit-first-alone, visit-second, codes-end, next-code, step-now, step-later, step-false, step-not-false}
 use Rattle.table.specs.Table.{values, valueAt, setValue, Kept}

@@ -8,7 +8,7 @@ use lib.ListN.{length, drop}
 use Rattle.paper.specs.Atoms.{Clause, Live}
 use Rattle.paper.specs.Files.{File, codes}
 use Rattle.paper.specs.Sweeps.{not-false, State, sweep}
-use Rattle.paper.proofs.Valid.{Codes}
+use Rattle.paper.specs.Valid.{Codes}
 use Rattle.lookup.specs.Clause.{ClauseTable}
 use Rattle.lookup.specs.Live.{live}
 use Rattle.table.specs.Table.{values, valueAt, Kept}

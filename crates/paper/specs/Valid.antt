@@ -1,5 +1,4 @@
--- What the reading of the files has seen of the clauses, and keeps from step to step.
--- Assumes nothing.
+-- What the reading has seen of the files, kept from step to step. Inner contracts cite it, the promise does not.
 use Prim.Native.Nat.{ℕ, _+_, _*_, _/_, _≤_, _<_}
 use mathlib.Core.Path.{_≡_}
 use mathlib.Core.Bool.{true}
@@ -7,7 +6,11 @@ use mathlib.Core.List.{List, [], _∷_, map}
 use Rattle.paper.specs.Atoms.{_∈_, Clause, Formula, Live, Witness}
 use Rattle.paper.specs.Files.{Step, RUP-step, SR-step, WSR-step, DELETE-step}
 use Rattle.paper.specs.Refusals.{is-live}
-use Rattle.paper.proofs.Lists.{Distinct}
+
+-- no element twice
+abbrev pub Distinct : List ℕ → Type 0
+Distinct [] = Unit {0}
+Distinct (l ∷ D) = (¬ (l ∈ D)) × Distinct D
 
 -- codes of the variables 1 to vars
 abbrev pub Codes : ℕ → Clause → Type 0
