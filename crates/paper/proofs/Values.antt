@@ -131,18 +131,3 @@ not-false-distinct vs (l ∷ D) d = go (not-false-distinct vs D (d .1)) (is-true
     go : Distinct (not-false vs D) → (b : Bool) → Distinct (elim b [ true ↦ not-false vs D | false ↦ l ∷ not-false vs D ])
     go below true = below
     go below false = (λ m. d .0 ((not-false-out vs D m) .0), below)
-
--- assuming never changes how many values there are
-pub length-assume : (A : List ℕ) (s : State) → length (assume A s .values) ≡ length (s .values)
-unfolding assume
-length-assume [] s = refl
-length-assume (a ∷ A) s = go (length-assume A) (is-true (s .values) (complement a))
-  where
-    go : ((t : State) → length (assume A t .values) ≡ length (t .values)) → (b : Bool)
-        → length ((elim b as (λ _. State) [
-          | true ↦ record { values = s .values; literals = s .literals; sweeps = s .sweeps; clash = true }
-          | false ↦ assume A (record { values = put (s .values) a; literals = s .literals; sweeps = s .sweeps; clash = false })
-        ]) .values)
-        ≡ length (s .values)
-    go rec true = refl
-    go rec false = rec (record { values = put (s .values) a; literals = s .literals; sweeps = s .sweeps; clash = false }) ∙ length-put (s .values) a
