@@ -2,6 +2,7 @@
 
 mod cases;
 mod damage;
+mod deletions;
 mod faults;
 mod files;
 mod judge;
@@ -25,7 +26,7 @@ use std::process::ExitCode;
 
 const USAGE: &str = "second answer FORMULA PROOF
 second cases [OUTDIR]
-second pack stored|systematic|bytes|pigeons|large OUTDIR
+second pack stored|systematic|bytes|deletions|pigeons|large OUTDIR
 second pack random SEED COUNT OUTDIR
 second stowages SEED COUNT
 second counts FILE.lines...
@@ -121,6 +122,7 @@ fn fixed(name: &str) -> Result<Vec<pack::Case>, String> {
         "stored" => Ok(stored::cases()),
         "systematic" => Ok(systematic::cases()),
         "bytes" => Ok(systematic::every_byte()),
+        "deletions" => Ok(deletions::cases()),
         "pigeons" => Ok(refutations::cases()),
         "large" => Ok(large::cases()),
         _ => Err(USAGE.to_string()),
