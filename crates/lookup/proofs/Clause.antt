@@ -25,20 +25,20 @@ payload-part f at n e = let m : at + 3 + n - (at + 3) ≡ two f (at + 1) = omega
 
 -- the word w, as the code has it v
 module _ (f p : File) (w v : ℕ) (e : v ≡ w) where
-  pub clause-formula : v < 2097152 → (b : List ℕ) → b ≡ payload f (extentAt f (v - 1048576)) → b ≡ clauseBytes f p w
+  pub clause-formula : v < 2097152 → (b : List ℕ) → b ≡ payload f (extentAt f (v % 1048576)) → b ≡ clauseBytes f p w
   unfolding clauseBytes
   clause-formula h b q = rw (← e) (rw (leb-beyond 2097152 v h, clauseBytes) q)
 
-  pub clause-proof : 2097152 ≤ v → (b : List ℕ) → b ≡ payload p (extentAt p (v - 2097152)) → b ≡ clauseBytes f p w
+  pub clause-proof : 2097152 ≤ v → (b : List ℕ) → b ≡ payload p (extentAt p (v % 1048576)) → b ≡ clauseBytes f p w
   unfolding clauseBytes
   clause-proof h b q = rw (← e) (rw (leb-within 2097152 v h, clauseBytes) q)
 
   -- and it lies whole in its file
   module _ (s : Stands f p w) where
-    pub formula-inside : v < 2097152 → v - 1048576 + 3 + two f (v - 1048576 + 1) ≤ length f
+    pub formula-inside : v < 2097152 → v % 1048576 + 3 + two f (v % 1048576 + 1) ≤ length f
     formula-inside h = rw e (s .in-formula (omega arith) .inside)
 
-    pub proof-inside : 2097152 ≤ v → v - 2097152 + 3 + two p (v - 2097152 + 1) ≤ length p
+    pub proof-inside : 2097152 ≤ v → v % 1048576 + 3 + two p (v % 1048576 + 1) ≤ length p
     proof-inside h = rw e (s .in-proof (omega arith) .inside)
 
 -- the field lies whole in its file, by the paper's reading of it
@@ -58,27 +58,27 @@ module _ (why : Reason) (tag : ℕ) (f : File) (at : ℕ) (e : Extent) (q : fiel
   payload-of = let s = stands why tag even f at e q in rw (s .start, s .size)
 
 -- The clause of a word is the payload of the field that the paper's reading finds, and it stands in its file.
-module _ (why : Reason) (tag : ℕ) (f p : File) (at : ℕ) (e : Extent) where
-  pub clause-of-formula : at < 1048576 → field why tag even f at ≡ ok e → clauseBytes f p (formulaWord at) ≡ payload f e
-  clause-of-formula small q =
-      let place : at ≡ 1048576 + at - 1048576 = omega arith in
+module _ (why : Reason) (tag : ℕ) (f p : File) (at : ℕ) (e : Extent) (small : at < 1048576) where
+  pub clause-of-formula : field why tag even f at ≡ ok e → clauseBytes f p (formulaWord at) ≡ payload f e
+  clause-of-formula q =
+      let place : at ≡ (1048576 + at) % 1048576 = omega arith in
       sym (clause-formula f p (1048576 + at) (1048576 + at) refl (omega arith) (payload f e)
       (sym (payload-of why tag f at e q) ∙ ap (λ (n : ℕ). payload f (extentAt f n)) place))
 
   pub clause-of-proof : field why tag even p at ≡ ok e → clauseBytes f p (proofWord at) ≡ payload p e
   clause-of-proof q =
-      let place : at ≡ 2097152 + at - 2097152 = omega arith in
+      let place : at ≡ (2097152 + at) % 1048576 = omega arith in
       sym (clause-proof f p (2097152 + at) (2097152 + at) refl (omega arith) (payload p e)
       (sym (payload-of why tag p at e q) ∙ ap (λ (n : ℕ). payload p (extentAt p n)) place))
 
-  pub formula-stands : at < 1048576 → field why tag even f at ≡ ok e → Stands f p (formulaWord at)
-  formula-stands small q =
-      let place : 1048576 + at - 1048576 ≡ at = omega arith in
+  pub formula-stands : field why tag even f at ≡ ok e → Stands f p (formulaWord at)
+  formula-stands q =
+      let place : (1048576 + at) % 1048576 ≡ at = omega arith in
       record { in-formula = λ h. rw place (whole-of why tag f at e q); in-proof = λ h. absurd (omega arith) }
 
   pub proof-stands : field why tag even p at ≡ ok e → Stands f p (proofWord at)
   proof-stands q =
-      let place : 2097152 + at - 2097152 ≡ at = omega arith in
+      let place : (2097152 + at) % 1048576 ≡ at = omega arith in
       record { in-formula = λ h. absurd (omega arith); in-proof = λ h. rw place (whole-of why tag p at e q) }
 
 -- a clause that stands has an even number of bytes
@@ -94,13 +94,13 @@ unfolding clauseBytes
 clause-even f p w s = go (leb 2097152 w) refl
   where
     go : (b : Bool) → leb 2097152 w ≡ b
-        → length {A = ℕ} (elim b [ true ↦ payload p (extentAt p (w - 2097152)) | false ↦ payload f (extentAt f (w - 1048576)) ]) % 2 ≡ 0
+        → length {A = ℕ} (elim b [ true ↦ payload p (extentAt p (w % 1048576)) | false ↦ payload f (extentAt f (w % 1048576)) ]) % 2 ≡ 0
     go true q =
-        let h : Whole p (w - 2097152) = s .in-proof (leb-yes 2097152 w q) in
-        ap (λ (n : ℕ). n % 2) (payload-length p (w - 2097152) h) ∙ h .even
+        let h : Whole p (w % 1048576) = s .in-proof (leb-yes 2097152 w q) in
+        ap (λ (n : ℕ). n % 2) (payload-length p (w % 1048576) h) ∙ h .even
     go false q =
-        let h : Whole f (w - 1048576) = s .in-formula (leb-no 2097152 w q) in
-        ap (λ (n : ℕ). n % 2) (payload-length f (w - 1048576) h) ∙ h .even
+        let h : Whole f (w % 1048576) = s .in-formula (leb-no 2097152 w q) in
+        ap (λ (n : ℕ). n % 2) (payload-length f (w % 1048576) h) ∙ h .even
 
 -- the number at which to go on
 none-beyond : (ws : List ℕ) (n : ℕ) → length ws ≤ n → getD ws n 0 ≡ 0

@@ -360,7 +360,7 @@ module _ (why : Reason) (tag : ℕ) (f p : File) (at : ℕ) (e : Extent) (small 
   formula-entered q = rw (← clause-of-formula why tag f p at e small q) (live-entered f p ws n (formulaWord at) above h (omega arith))
 
   pub proof-entered : field why tag even p at ≡ ok e → live f p (set ws n (proofWord at)) ≡ live f p ws ++ ((n, codes (payload p e)) ∷ [])
-  proof-entered q = rw (← clause-of-proof why tag f p at e q) (live-entered f p ws n (proofWord at) above h (omega arith))
+  proof-entered q = rw (← clause-of-proof why tag f p at e small q) (live-entered f p ws n (proofWord at) above h (omega arith))
 
 -- a clause is empty where its payload has fewer than two bytes
 pub codes-none : (b : List ℕ) → length b < 2 → codes b ≡ []

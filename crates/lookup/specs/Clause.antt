@@ -1,5 +1,5 @@
 -- The words of the clause table: the clause that a word stands for, the number at which to go on, and what the words always are.
-use Prim.Native.Nat.{ℕ, zero, suc, _+_, _-_, _%_, _≤_, _<_}
+use Prim.Native.Nat.{ℕ, zero, suc, _+_, _%_, _≤_, _<_}
 use mathlib.Core.Path.{_≡_}
 use mathlib.Core.Bool.{true, false}
 use mathlib.Core.List.{List}
@@ -23,8 +23,8 @@ Entered w = 1048576 ≤ w
 unfoldable pub clauseBytes : File → File → ℕ → List ℕ
 clauseBytes formula proof w =
     elim (leb 2097152 w) [
-      | true ↦ payload proof (extentAt proof (w - 2097152))
-      | false ↦ payload formula (extentAt formula (w - 1048576))
+      | true ↦ payload proof (extentAt proof (w % 1048576))
+      | false ↦ payload formula (extentAt formula (w % 1048576))
     ]
 
 -- a field that lies whole in its file, of even length
@@ -34,8 +34,8 @@ pub record Whole (file : File) (at : ℕ) : Type 0 where
 
 -- the clause of the word stands in its file
 pub record Stands (formula proof : File) (w : ℕ) : Type 0 where
-  pub in-formula : w < 2097152 → Whole formula (w - 1048576)
-  pub in-proof : 2097152 ≤ w → Whole proof (w - 2097152)
+  pub in-formula : w < 2097152 → Whole formula (w % 1048576)
+  pub in-proof : 2097152 ≤ w → Whole proof (w % 1048576)
 
 -- the first number from n on that may be live: a word that is not that of a clause can tell to go on at a later number
 unfoldable pub onward : List ℕ → ℕ → ℕ

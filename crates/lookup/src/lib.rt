@@ -30,10 +30,11 @@ pub fn clause_at<'a>(formula: &'a [u8], proof: &'a [u8], words: &[u32], n: usize
     ensures { λ r. ⌜ now r ≡ clauseBytes (now (formula .entry)) (now (proof .entry)) (getD (now (words .entry)) n 0) ⌝ }
 {
     let w = wide(words[n]);
+    let at = w % 1048576;
     if w < 2097152 {
-        return payload_at(formula, w - 1048576);
+        return payload_at(formula, at);
     }
-    payload_at(proof, w - 2097152)
+    payload_at(proof, at)
 }
 
 // The word of the clause whose tag is at a place of the formula.

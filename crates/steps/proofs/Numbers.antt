@@ -176,5 +176,5 @@ module _ {f p : File} {next : ℕ} {ws : List ℕ} (t : ClauseTable f p next ws)
         let h : next < length (removed ws ns) = omega (arith, removed-length ns ws) in (
           proof-entered why tag f p at e small (removed ws ns) next (u .unused) h q
               ∙ ap (λ (G : Formula). G ++ ((next, codes (payload p e)) ∷ [])) (after-removing .0),
-          table-entered u h (proofWord at) (omega arith) (proof-stands why tag f p at e q),
+          table-entered u h (proofWord at) (omega arith) (proof-stands why tag f p at e small q),
         )

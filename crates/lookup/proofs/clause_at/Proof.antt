@@ -13,9 +13,6 @@ shared-slice-read-wide c = search needs
 wide-requires : tie.Need-wide-requires
 wide-requires c κs = search needs
 
-sub-payload-at : tie.Need-sub-payload-at
-sub-payload-at c = search needs
-
 payload-at-requires : tie.Need-payload-at-requires
 payload-at-requires c κs =
     let d = c .before in
@@ -39,7 +36,6 @@ clause-at-spec =
     mul-wide
     shared-slice-read-wide
     wide-requires
-    sub-payload-at
     payload-at-requires
     returns
     payload-at-requires-2
