@@ -89,8 +89,8 @@ pub fn answer<'a>(formula: &'a [u8], proof: &'a [u8], words: &mut [u32], t: &mut
 {
     memory::zero_words(words);
     memory::zero_bytes(t);
-    let r = judge_files(formula, proof, words, t);
+    let verdict = judge_files(formula, proof, words, t);
     memory::zero_words(words);
     memory::zero_bytes(t);
-    r
+    verdict
 }
