@@ -34,17 +34,17 @@ module _ {f p : File} {ws : List ℕ} {clause numbers : List ℕ} {vars next : �
   module _ (n : New f p ws 0x11 clause numbers vars next t) {b : Bool} (d : Decides b (RUP (live f p ws) (codes clause))) where
     pub rup-passed : b ≡ true → NewJudged f p ws 0x11 clause numbers vars next t Passed
     unfolding outcome to-step
-    rup-passed e s m i = rw (n .none-listed (omega arith)) (rup (d .yes e))
+    rup-passed e s i = rw (n .none-listed (omega arith)) (rup (d .yes e))
 
     pub rup-stopped : b ≡ false → NewJudged f p ws 0x11 clause numbers vars next t (Stopped NotRup 0)
     unfolding outcome to-step
-    rup-stopped e s m i = not-rup (d .no e)
+    rup-stopped e s i = not-rup (d .no e)
 
   -- SR
   module _ (n : New f p ws 0x12 clause numbers vars next t) {b : Bool} (d : (s : Witness) → Images t s → Decides b (Trivialises s (codes clause))) where
     pub sr-not-trivialised : not b ≡ true → NewJudged f p ws 0x12 clause numbers vars next t (Stopped NotTrivialised 0)
     unfolding outcome to-step
-    sr-not-trivialised e s m i = not-trivialised (d s i .no (was-false b e))
+    sr-not-trivialised e s i = not-trivialised (d s i .no (was-false b e))
 
     module _ (e : not b ≡ false) (u : List ℕ) (same : u ≡ t) (r : Failing) (found : (s : Witness) → Images u s → Finds (live f p ws) (codes clause) s (codes numbers) r) where
       images : (s : Witness) → Images t s → Images u s
@@ -52,30 +52,30 @@ module _ {f p : File} {ws : List ℕ} {clause numbers : List ℕ} {vars next : �
 
       pub sr-passed : r ≡ Nothing → NewJudged f p ws 0x12 clause numbers vars next t Passed
       unfolding outcome to-step
-      sr-passed q s m i =
+      sr-passed q s i =
           let all = subst (Finds (live f p ws) (codes clause) s []) q (rw (n .none-listed (omega arith)) at (found s (images s i))) in
           rw (n .none-listed (omega arith)) (sr (record { new = d s i .yes (was-true b e); old = λ k D l. all k D l (λ z. elim z [ ]) }))
 
       pub sr-stopped : (k : ℕ) → r ≡ At k → NewJudged f p ws 0x12 clause numbers vars next t (Stopped NotPassing k)
       unfolding outcome to-step
-      sr-stopped k q s m i =
+      sr-stopped k q s i =
           sr-lowest (d s i .yes (was-true b e)) (subst (Finds (live f p ws) (codes clause) s []) q (rw (n .none-listed (omega arith)) at (found s (images s i))))
 
   -- WSR
   module _ (n : New f p ws 0x13 clause numbers vars next t) (r : Failing) (found : (s : Witness) → Images t s → Finds (live f p ws) (codes clause) s (codes numbers) r) where
     pub wsr-stopped : (k : ℕ) → r ≡ At k → NewJudged f p ws 0x13 clause numbers vars next t (Stopped NotPassing k)
     unfolding outcome to-step
-    wsr-stopped k q s m i = wsr-lowest (subst (Finds (live f p ws) (codes clause) s (codes numbers)) q (found s i))
+    wsr-stopped k q s i = wsr-lowest (subst (Finds (live f p ws) (codes clause) s (codes numbers)) q (found s i))
 
     module _ (e : r ≡ Nothing) (u : List ℕ) (same : u ≡ t) {b : Bool} (d : (s : Witness) → Images u s → Decides b (Passes (live f p ws) (codes clause) s (codes clause))) where
       pub wsr-passed : b ≡ true → NewJudged f p ws 0x13 clause numbers vars next t Passed
       unfolding outcome to-step
-      wsr-passed q s m i =
+      wsr-passed q s i =
           wsr (record { new = d s (rw same i) .yes q; old = subst (Finds (live f p ws) (codes clause) s (codes numbers)) e (found s i) })
 
       pub wsr-new-stopped : b ≡ false → NewJudged f p ws 0x13 clause numbers vars next t (Stopped NotPassing next)
       unfolding outcome to-step
-      wsr-new-stopped q s m i = wsr-new (subst (Finds (live f p ws) (codes clause) s (codes numbers)) e (found s i)) (d s (rw same i) .no q)
+      wsr-new-stopped q s i = wsr-new (subst (Finds (live f p ws) (codes clause) s (codes numbers)) e (found s i)) (d s (rw same i) .no q)
 
   -- what the questions ask
   module _ {tag : ℕ} (n : New f p ws tag clause numbers vars next t) (u : List ℕ) (same : u ≡ t) where

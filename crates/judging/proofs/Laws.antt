@@ -20,8 +20,8 @@ use Rattle.paper.specs.Conditions.{without, after}
 use Rattle.paper.specs.Refusals.{each, no-two, check-clause, read-fields, check-mappings, check-numbers}
 use Rattle.paper.specs.Answers.{Outcome, taken, Judged, deleted}
 use Rattle.paper.proofs.Lists.{eqb-same, eqb-other, leb-within}
-use Rattle.paper.specs.Valid.{Distinct, Codes, Apart, Mapping, Listed}
-use Rattle.paper.proofs.Reading.{Then, Ranged, check-clause-then, check-mappings-then, no-two-then, check-numbers-then}
+use Rattle.paper.specs.Valid.{Codes, Apart, Listed}
+use Rattle.paper.proofs.Reading.{Then, Ranged, check-clause-then, check-mappings-then, check-numbers-then}
 use Rattle.paper.proofs.Scan.{length-payload}
 use Rattle.lookup.specs.Clause.{proofWord, ClauseTable}
 use Rattle.lookup.specs.Live.{live}
@@ -217,14 +217,8 @@ module _ {f p : File} {at vars next : ℕ} {words t : List ℕ} {x : Fields} (l 
     pub number-stops : getD p at 0 ≢ 0x14 → 16384 ≤ next → JudgementIs p vars G next at x (Stopped NumbersUsedUp at)
     number-stops ne h = unread (used-up p vars G next at x (l .fields) (l .clause) (l .mapped) (l .once) fine ne h)
 
-    mapping : Mapping vars s
-    mapping =
-        let r = subst (Then (λ _. Ranged vars s)) (l .mapped) (check-mappings-then vars (x .witness .start) s) in
-        record {
-          variables = λ v a m. ((r v a m) .0, (r v a m) .1);
-          atoms = λ v a m. (r v a m) .2;
-          once = subst (Then (λ _. Distinct (variables s))) (l .once) (no-two-then ProofTwice 4 (x .witness .start) (variables s));
-        }
+    ranged : Ranged vars s
+    ranged = subst (Then (λ _. Ranged vars s)) (l .mapped) (check-mappings-then vars (x .witness .start) s)
 
     -- the numbers in use hold all live clauses
     used : live f p (take (next - 0) words) ≡ G
@@ -248,14 +242,14 @@ module _ {f p : File} {at vars next : ℕ} {words t : List ℕ} {x : Fields} (l 
           listed = rw (used, en) listed;
           none-listed = λ b. rw en (no-codes p (x .numbers) (i .no-numbers b));
           table = l .table;
-          inward = images-inward vars t s (l .table .small) (l .images) (mapping .atoms);
+          inward = images-inward vars t s (l .table .small) (l .images) (λ v a m. (ranged v a m) .2);
         }
 
     pub new-judged : getD p at 0 ≢ 0x14 → next < 16384 → (clause numbers : List ℕ) → clause ≡ payload p (x .clause) → numbers ≡ payload p (x .numbers)
         → (r : Judgement) → NewJudged f p (take (next - 0) words) (getD p at 0) clause numbers vars next t r → JudgementIs p vars G next at x r
     new-judged ne h clause numbers ec en r j =
         judged (new-read p vars G next at x (l .fields) (l .clause) (l .mapped) (l .once) fine ne h) (λ _. h) listed
-        (rw (used, ec, en) at (j s mapping (l .images)))
+        (rw (used, ec, en) at (j s (l .images)))
 
 -- 4. The step taken into the clause table.
 module _ {f p : File} {at vars next : ℕ} {words t : List ℕ} (r : Ready f p at vars next words t) where

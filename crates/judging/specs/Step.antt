@@ -14,7 +14,7 @@ use Rattle.paper.specs.Files.{File, ok, bad, payload, codes, mappings, Step}
 use Rattle.paper.specs.Conditions.{without, after}
 use Rattle.paper.specs.Refusals.{no-two, check-clause, read-fields, check-mappings, to-step, read-step}
 use Rattle.paper.specs.Answers.{Outcome, taken, stops, Judged}
-use Rattle.paper.specs.Valid.{Kept, Mapping, Listed}
+use Rattle.paper.specs.Valid.{Kept, Listed}
 use Rattle.paper.specs.Valid as valid
 use Rattle.lookup.specs.Clause.{proofWord, ClauseTable}
 use Rattle.lookup.specs.Live.{live}
@@ -49,7 +49,7 @@ pub record New (f p : File) (ws : List ℕ) (tag : ℕ) (clause numbers : List �
 -- the judgement is that of the step, for every witness whose images the table holds
 abbrev pub NewJudged : File → File → List ℕ → ℕ → List ℕ → List ℕ → ℕ → ℕ → List ℕ → Judgement → Type 0
 NewJudged f p ws tag clause numbers vars next t r =
-    (s : Witness) → Mapping vars s → Images t s
+    (s : Witness) → Images t s
     → Judged (live f p ws) next (to-step tag (codes clause) s (codes numbers)) (outcome (live f p ws) next tag (codes clause) (codes numbers) r)
 
 -- What the judgement of a step's fields says: the step is refused as it is read, or it is read and judged.

@@ -135,7 +135,7 @@ pub fn check_numbers(proof: &[u8], e: Extent, words: &[u32]) -> Checked
     Checked::Fine
 }
 
-// Clears the listed numbers: their clauses are no longer live. The last goes first, so that each word is written once.
+// Clears the listed numbers: their clauses are no longer live. The last goes first, so that a run of them is written once.
 pub fn remove_numbers(proof: &[u8], e: Extent, words: &mut [u32])
     requires { ⌜ (e .start + e .size ≤ length (now proof)) × ((e .size % 2 ≡ 0) × ((length (now words) ≤ 65536) × Below (length (now words)) (codes (payload (now proof) e)))) ⌝ }
     ensures { λ _. ⌜ now (words .exit) ≡ removed (now (words .entry)) (codes (payload (now (proof .entry)) e)) ⌝ }
