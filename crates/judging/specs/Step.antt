@@ -91,7 +91,7 @@ words-after p at next x words =
     ]
 
 -- the clause table after a step that is taken; m is the next number then
-pub record Entered (f p : File) (at next : ℕ) (words : List ℕ) (m : ℕ) (words′ : List ℕ) : Type 0 where
+pub record AfterTaken (f p : File) (at next : ℕ) (words : List ℕ) (m : ℕ) (words′ : List ℕ) : Type 0 where
   pub fields : Fields
   pub read : read-fields p at ≡ ok fields
   pub contents : words′ ≡ words-after p at next fields words
@@ -102,7 +102,7 @@ pub record Entered (f p : File) (at next : ℕ) (words : List ℕ) (m : ℕ) (wo
 -- and after any answer: a step that is refused leaves it as it was
 abbrev pub After : File → File → ℕ → ℕ → StepAnswer → List ℕ → List ℕ → Type 0
 After f p at next (StepAnswer.Stopped reason place) words words′ = words′ ≡ words
-After f p at next (Taken m later) words words′ = Entered f p at next words m words′
+After f p at next (Taken m later) words words′ = AfterTaken f p at next words m words′
 
 pub record Done (f p : File) (at vars next : ℕ) (words t : List ℕ) (r : StepAnswer) (words′ t′ : List ℕ) : Type 0 where
   pub answer : StepIs p vars (live f p words) next at r (live f p words′)
