@@ -1,3 +1,4 @@
 pub mod Clause
+pub mod Lands
 pub mod Live
 pub mod Table

@@ -2,7 +2,7 @@
 -- Assumes nothing.
 use Prim.Native.Nat.{ℕ, zero, suc, _+_, _-_, _≤_, _<_}
 use mathlib.Core.Path.{_≡_, refl, sym, _∙_}
-use mathlib.Core.Logic.{_≢_}
+use mathlib.Core.Logic.{_≢_, _⊎_, inl, inr}
 use mathlib.Core.Bool.{Bool, true, false}
 use mathlib.Core.List.{List, [], _∷_}
 use native.Mathlib.Omega.{arith}
@@ -12,18 +12,20 @@ use lib.ListN.{length, getD, set, take, drop, length-set}
 use lib.Seq.{getD-set-same, getD-set-other}
 use Rattle.paper.specs.Files.{File}
 use Rattle.paper.proofs.Lists.{leb-yes, leb-no}
-use Rattle.lookup.specs.Clause.{Entered, Stands, onward, lowered, cleared, ClauseTable}
+use Rattle.lookup.specs.Clause.{Entered, Stands, onward, lowered, cleared, Lands, ClauseTable}
 use Rattle.lookup.specs.Live.{live-from}
+use Rattle.lookup.proofs.Lands.{lands-kept, lands-entered, Lowering, lowering, settled, pointed}
 use Rattle.lookup.proofs.Live.{live-skip}
 
--- words that are all 0
-pub table-start : (f p : File) (next : ℕ) (ws : List ℕ) → ((j : ℕ) → getD ws j 0 ≡ 0) → ClauseTable f p next ws
-table-start f p next ws z =
+-- words that are all 0, and no number in use
+pub table-start : (f p : File) (ws : List ℕ) → ((j : ℕ) → getD ws j 0 ≡ 0) → ClauseTable f p 1 ws
+table-start f p ws z =
     record {
       stands = λ n h. let e = z n in absurd (omega arith);
       passed = λ n k h a b. let e = z k in omega arith;
       bounded = λ n h. let e = z n in omega arith;
       unused = λ n h. z n;
+      lands = λ n a b h. absurd (omega arith);
     }
 
 -- words of which each is as in another table
@@ -34,6 +36,7 @@ table-same same t =
       passed = λ n k h a b. let x = same n in let y = same k in let r = t .passed n k (omega arith) a (omega arith) in omega arith;
       bounded = λ n h. let x = same n in let r = t .bounded n (omega arith) in omega arith;
       unused = λ n h. same n ∙ t .unused n h;
+      lands = λ n a b h. lands-kept (same n) (same _) (t .lands n a b (rw (same n) at h));
     }
 
 getD-used : (next : ℕ) (ws : List ℕ) → ((n : ℕ) → next ≤ n → getD ws n 0 ≡ 0) → (n : ℕ) → getD (take next ws) n 0 ≡ getD ws n 0
@@ -55,6 +58,7 @@ table-entered {f} {p} {n} {ws} t h w in-use stands =
       passed = λ i k low a b. not-passed i k low a b (ℕ-discrete i n);
       bounded = λ k low. within k low (ℕ-discrete k n);
       unused = λ k b. let ne : k ≢ n = omega arith in getD-set-other ws n k w 0 ne ∙ t .unused k (omega arith);
+      lands = λ k a b low. landing k a b low (ℕ-discrete k n);
     }
   where
     here : getD (set ws n w) n 0 ≡ w
@@ -81,7 +85,12 @@ table-entered {f} {p} {n} {ws} t h w in-use stands =
         let r = t .bounded k (omega arith) in
         omega arith
 
--- where the search goes on: not before the number, not past those in use, and past no live one
+    landing : (k : ℕ) → 1 ≤ k → k < n + 1 → getD (set ws n w) k 0 < 1048576 → Dec (k ≡ n) → Lands (n + 1) (set ws n w) k
+    landing k a b low (yes e) = let q : getD (set ws n w) k 0 ≡ w = rw e here in absurd (omega arith)
+    landing k a b low (no ne) =
+        lands-entered k w h (t .unused n (omega arith)) in-use ne (t .lands k a (omega arith) (rw (getD-set-other ws n k w 0 ne) at low))
+
+-- where the search goes on: not before the number, not past those in use, past no live one, and at a live one or at next
 module _ (ws : List ℕ) (n : ℕ) where
   pub onward-from : n ≤ onward ws n
   unfolding onward
@@ -112,91 +121,62 @@ module _ (ws : List ℕ) (n : ℕ) where
         go false q true h = t .passed n k (leb-no 1048576 (getD ws n 0) q) a h
         go false q false h = absurd (omega arith)
 
--- one word that tells to go on at e, where no number between them is live
-pointed : {f p : File} {next : ℕ} {ws : List ℕ} → ClauseTable f p next ws → (i e : ℕ) → i < length ws → i < next → e ≤ next → e < 1048576
-    → ((j : ℕ) → i < j → j < e → getD ws j 0 < 1048576) → ClauseTable f p next (set ws i e)
-pointed {f} {p} {next} {ws} t i e h below last low between =
-    record {
-      stands = λ k b. word-stands k b (ℕ-discrete k i);
-      passed = λ n k q a b. not-passed n k q a b (ℕ-discrete n i) (ℕ-discrete k i);
-      bounded = λ k q. within k q (ℕ-discrete k i);
-      unused = λ k b. let ne : k ≢ i = omega arith in getD-set-other ws i k e 0 ne ∙ t .unused k b;
-    }
-  where
-    here : getD (set ws i e) i 0 ≡ e
-    here = getD-set-same ws i e 0 h
+    pub onward-ends : 1 ≤ n → n ≤ next → (onward ws n ≡ next) ⊎ Entered (getD ws (onward ws n) 0)
+    unfolding onward
+    onward-ends a h = go (leb 1048576 (getD ws n 0)) refl (leb n (getD ws n 0)) refl (ℕ-discrete n next)
+      where
+        go : (b : Bool) → leb 1048576 (getD ws n 0) ≡ b → (c : Bool) → leb n (getD ws n 0) ≡ c → Dec (n ≡ next)
+            → (elim b [ true ↦ n | false ↦ elim c [ true ↦ getD ws n 0 | false ↦ n ] ] ≡ next)
+            ⊎ Entered (getD ws (elim b [ true ↦ n | false ↦ elim c [ true ↦ getD ws n 0 | false ↦ n ] ]) 0)
+        go true q c r d = inr (leb-yes 1048576 (getD ws n 0) q)
+        go false q true r (yes e) = let z = t .unused n (omega arith) in let y = leb-yes n (getD ws n 0) r in absurd (omega arith)
+        go false q true r (no ne) = t .lands n a (omega arith) (leb-no 1048576 (getD ws n 0) q) .ends
+        go false q false r (yes e) = inl e
+        go false q false r (no ne) =
+            let x = t .lands n a (omega arith) (leb-no 1048576 (getD ws n 0) q) .above in
+            let y = leb-no n (getD ws n 0) r in
+            absurd (omega arith)
 
-    word-stands : (k : ℕ) → Entered (getD (set ws i e) k 0) → Dec (k ≡ i) → Stands f p (getD (set ws i e) k 0)
-    word-stands k b (yes z) = let q : getD (set ws i e) k 0 ≡ e = rw z here in absurd (omega arith)
-    word-stands k b (no ne) = rw (getD-set-other ws i k e 0 ne) (t .stands k (rw (getD-set-other ws i k e 0 ne) at b))
-
-    not-passed : (n k : ℕ) → getD (set ws i e) n 0 < 1048576 → n ≤ k → k < getD (set ws i e) n 0 → Dec (n ≡ i) → Dec (k ≡ i)
-        → getD (set ws i e) k 0 < 1048576
-    not-passed n k q a b x (yes z) = let r : getD (set ws i e) k 0 ≡ e = rw z here in omega arith
-    not-passed n k q a b (yes z) (no ne) =
-        let r : getD (set ws i e) n 0 ≡ e = rw z here in
-        let s : getD (set ws i e) k 0 ≡ getD ws k 0 = getD-set-other ws i k e 0 ne in
-        let y = between k (omega arith) (omega arith) in
-        omega arith
-    not-passed n k q a b (no m) (no ne) =
-        let r : getD (set ws i e) n 0 ≡ getD ws n 0 = getD-set-other ws i n e 0 m in
-        let s : getD (set ws i e) k 0 ≡ getD ws k 0 = getD-set-other ws i k e 0 ne in
-        let y = t .passed n k (omega arith) a (omega arith) in
-        omega arith
-
-    within : (k : ℕ) → getD (set ws i e) k 0 < 1048576 → Dec (k ≡ i) → getD (set ws i e) k 0 ≤ next
-    within k q (yes z) = let r : getD (set ws i e) k 0 ≡ e = rw z here in omega arith
-    within k q (no ne) =
-        let r : getD (set ws i e) k 0 ≡ getD ws k 0 = getD-set-other ws i k e 0 ne in
-        let y = t .bounded k (omega arith) in
-        omega arith
-
--- from n down, where no number from n up to e is live
-lowered-table : {f p : File} {next : ℕ} (n e : ℕ) (ws : List ℕ) → ClauseTable f p next ws → n ≤ length ws → n ≤ next → e ≤ next → e < 1048576
-    → ((j : ℕ) → n ≤ j → j < e → getD ws j 0 < 1048576) → ClauseTable f p next (lowered ws n e)
+-- n and those right below it that are not live, where no number between n and e is
+lowered-table : {f p : File} {next : ℕ} (n e : ℕ) (ws : List ℕ) → Lowering f p next (suc n) ws → n < length ws → n < next → e ≤ next → e < 1048576
+    → ((j : ℕ) → n < j → j < e → getD ws j 0 < 1048576) → n < e → (e ≡ next) ⊎ Entered (getD ws e 0) → ClauseTable f p next (lowered (set ws n e) n e)
 unfolding lowered
-lowered-table zero e ws t h below last low between = t
-lowered-table {f} {p} {next} (suc n) e ws t h below last low between =
-    go (λ v q r. lowered-table n e (set ws n e) v q (omega arith) last low r) (leb 1048576 (getD ws n 0)) refl
+lowered-table zero e ws t h below last low between up end =
+    settled (pointed 0 e t h below last low between up end) (λ k r. let x = r .below in absurd (omega arith))
+lowered-table {f} {p} {next} (suc n) e ws t h below last low between up end =
+    go (leb 1048576 (getD us n 0)) refl
+    (lowered-table n e us here (omega (arith, length-set ws (suc n) e)) (omega arith) last low (λ j a b. from j a b (ℕ-discrete j (suc n)))
+    (omega arith) (rw (getD-set-other ws (suc n) e e 0 ne) end))
   where
     us : List ℕ
-    us = set ws n e
+    us = set ws (suc n) e
 
-    here : getD us n 0 ≡ e
-    here = getD-set-same ws n e 0 (omega arith)
+    ne : e ≢ suc n
+    ne = omega arith
 
-    from : getD ws n 0 < 1048576 → (j : ℕ) → n ≤ j → j < e → Dec (j ≡ n) → getD us j 0 < 1048576
-    from q j a b (yes z) = let r : getD us j 0 ≡ e = rw z here in omega arith
-    from q j a b (no ne) =
-        let r : getD us j 0 ≡ getD ws j 0 = getD-set-other ws n j e 0 ne in
-        let y = between j (omega arith) b in
-        omega arith
+    here : Lowering f p next (suc n) us
+    here = pointed (suc n) e t h below last low between up end
 
-    go : (ClauseTable f p next us → n ≤ length us → ((j : ℕ) → n ≤ j → j < e → getD us j 0 < 1048576) → ClauseTable f p next (lowered us n e))
-        → (b : Bool) → leb 1048576 (getD ws n 0) ≡ b → ClauseTable f p next (elim b [ true ↦ ws | false ↦ lowered us n e ])
-    go more true q = t
-    go more false q =
-        more (pointed t n e (omega arith) (omega arith) last low (λ j a b. between j (omega arith) b)) (omega (arith, length-set ws n e))
-        (λ j a b. from (leb-no 1048576 (getD ws n 0) q) j a b (ℕ-discrete j n))
+    from : (j : ℕ) → n < j → j < e → Dec (j ≡ suc n) → getD us j 0 < 1048576
+    from j a b (yes z) = rw (z, getD-set-same ws (suc n) e 0 h) low
+    from j a b (no m) = rw (getD-set-other ws (suc n) j e 0 m) (between j (omega arith) b)
+
+    go : (b : Bool) → leb 1048576 (getD us n 0) ≡ b → ClauseTable f p next (lowered (set us n e) n e)
+        → ClauseTable f p next (elim b [ true ↦ us | false ↦ lowered (set us n e) n e ])
+    go true q more =
+        let live = leb-yes 1048576 (getD us n 0) q in
+        settled here (λ k r. let x = r .below in let y = r .none n (omega arith) (omega arith) in absurd (omega arith))
+    go false q more = more
 
 -- a number in use cleared
 pub table-cleared : {f p : File} {next : ℕ} {ws : List ℕ} → ClauseTable f p next ws → (n : ℕ) → n < length ws → n < next → next < 1048576
     → ClauseTable f p next (cleared ws n)
 unfolding cleared
 table-cleared {f} {p} {next} {ws} t n h below last =
-    let e : ℕ = onward ws (n + 1) in
-    let upto : e ≤ next = onward-within ws (n + 1) t (omega arith) in
-    let us = pointed t n e h below upto (omega arith) (λ j a b. onward-passes ws (n + 1) t j (omega arith) b) in
-    lowered-table n e (set ws n e) us (omega (arith, length-set ws n e)) (omega arith) upto (omega arith) between
-  where
-    between : (j : ℕ) → n ≤ j → j < onward ws (n + 1) → getD (set ws n (onward ws (n + 1))) j 0 < 1048576
-    between j a b = go (ℕ-discrete j n)
-      where
-        go : Dec (j ≡ n) → getD (set ws n (onward ws (n + 1))) j 0 < 1048576
-        go (yes z) =
-            let upto = onward-within ws (n + 1) t (omega arith) in
-            rw (z, getD-set-same ws n (onward ws (n + 1)) 0 h) (omega arith)
-        go (no ne) = rw (getD-set-other ws n j (onward ws (n + 1)) 0 ne) (onward-passes ws (n + 1) t j (omega arith) b)
+    let up = onward-from ws (n + 1) in
+    let upto = onward-within ws (n + 1) t (omega arith) in
+    lowered-table n (onward ws (n + 1)) ws (lowering t) h below upto (omega arith) (λ j a b. onward-passes ws (n + 1) t j (omega arith) b) (omega arith)
+    (onward-ends ws (n + 1) t (omega arith) (omega arith))
 
 lowered-length : (n e : ℕ) (ws : List ℕ) → length (lowered ws n e) ≡ length ws
 unfolding lowered

@@ -1,6 +1,7 @@
 -- The words of the clause table: the clause that a word stands for, the number at which to go on, and what the words always are.
 use Prim.Native.Nat.{ℕ, zero, suc, _+_, _%_, _≤_, _<_}
 use mathlib.Core.Path.{_≡_}
+use mathlib.Core.Logic.{_⊎_}
 use mathlib.Core.Bool.{true, false}
 use mathlib.Core.List.{List}
 use lib.Dec.{leb}
@@ -54,10 +55,16 @@ lowered ws (suc n) e = elim (leb 1048576 (getD ws n 0)) [ true ↦ ws | false �
 unfoldable pub cleared : List ℕ → ℕ → List ℕ
 cleared ws n = lowered (set ws n (onward ws (n + 1))) n (onward ws (n + 1))
 
--- What the words always are, the numbers below next in use: each clause stands in its file, no live number is passed over, and none at
--- or above next has a word.
+-- from number n the search goes on at a live number above it, or at next
+pub record Lands (next : ℕ) (ws : List ℕ) (n : ℕ) : Type 0 where
+  pub above : n < getD ws n 0
+  pub ends : (getD ws n 0 ≡ next) ⊎ Entered (getD ws (getD ws n 0) 0)
+
+-- What the words always are, the numbers below next in use: each clause stands in its file, no live number is passed over, none at or
+-- above next has a word, and from a number in use that is not live the search goes on at the next live one, or at next.
 pub record ClauseTable (formula proof : File) (next : ℕ) (ws : List ℕ) : Type 0 where
   pub stands : (n : ℕ) → Entered (getD ws n 0) → Stands formula proof (getD ws n 0)
   pub passed : (n k : ℕ) → getD ws n 0 < 1048576 → n ≤ k → k < getD ws n 0 → getD ws k 0 < 1048576
   pub bounded : (n : ℕ) → getD ws n 0 < 1048576 → getD ws n 0 ≤ next
   pub unused : (n : ℕ) → next ≤ n → getD ws n 0 ≡ 0
+  pub lands : (n : ℕ) → 1 ≤ n → n < next → getD ws n 0 < 1048576 → Lands next ws n

@@ -38,7 +38,7 @@ entering-start f vars m first ws t z = record {
   long = refl;
   table = refl;
   words = rw number;
-  clauses = λ p. table-start f p 1 ws z;
+  clauses = λ p. table-start f p ws z;
   rest = λ p. sym (ap (λ (F : Formula). prepend F (read-clauses f vars (m + 1 - 1) 1 first)) (live-none f p ws z) ∙ prepend-none _ ∙ all);
 }
   where
