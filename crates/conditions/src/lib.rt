@@ -96,7 +96,7 @@ pub fn lowest_failing<'a>(
     while n < words.len() {
         if is_next(modulo, at, n) {
             at += 2;
-        } else if 1048576 <= words[n] {
+        } else if lookup::LIVE <= words[n] {
             let d = lookup::clause_at(formula, proof, words, n);
             if !passes(formula, proof, words, clause, d, vars, t) {
                 return Failing::At(n);

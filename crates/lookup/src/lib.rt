@@ -8,6 +8,9 @@ ghost use Rattle.field.specs.Field.{extentAt};
 ghost use Rattle.lookup.specs.Clause.{formulaWord, proofWord, Entered, clauseBytes, Stands, onward, lowered, cleared, ClauseTable};
 ghost use Rattle.lookup.specs.Live.{EmptyLive};
 
+// From here on a word is that of a live clause.
+pub const LIVE: u32 = 1048576;
+
 // The payload of the field whose tag is at a place. That it lies in the file was tested when its clause was entered.
 fn payload_at(s: &[u8], at: usize) -> &[u8]
     requires { ⌜ at + 3 + two (now s) (at + 1) ≤ length (now s) ⌝ }
@@ -85,7 +88,7 @@ fn lower(words: &mut [u32], n: usize, word: u32)
 {
     let mut k = n;
     while 0 < k {
-        if 1048576 <= words[k - 1] {
+        if LIVE <= words[k - 1] {
             return;
         }
         k -= 1;
@@ -110,7 +113,7 @@ pub fn has_empty<'a>(formula: &'a [u8], proof: &'a [u8], words: &[u32]) -> bool
 {
     let mut n = 0;
     while n < words.len() {
-        if 1048576 <= words[n] {
+        if LIVE <= words[n] {
             let clause = clause_at(formula, proof, words, n);
             if clause.len() < 2 {
                 return true;

@@ -126,7 +126,7 @@ pub fn check_numbers(proof: &[u8], e: Extent, words: &[u32]) -> Checked
         if words.len() <= n {
             return Checked::At(i);
         }
-        if words[n] < 1048576 {
+        if words[n] < lookup::LIVE {
             return Checked::At(i);
         }
         last = n;

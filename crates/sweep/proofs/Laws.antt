@@ -145,6 +145,10 @@ module _ {vars : ℕ} {t c : List ℕ} {i : ℕ} (s : Passed vars t c 0 i) (lite
       pub visit-two-left : b ≡ false → visiting ≡ state
       visit-two-left e = visit-first (omega arith) ∙ visit-second l _ state (eqb-no _ 0 (sym eb ∙ e))
 
+-- where the sweep goes on is further than where it was
+pub onward-more : (ws : List ℕ) (k j n : ℕ) → k < j → n ≡ onward ws j → k < n
+onward-more ws k j n h e = omega (arith, onward-from ws j)
+
 -- 2. The loop over the clause numbers, from the record x and the table t₀ on.
 abbrev pub start : ℕ → List ℕ → Propagation → State
 start vars t x = record { values = values vars t; literals = x .literals; sweeps = x .sweeps; clash = x .clash }
@@ -205,16 +209,13 @@ module _ {vars : ℕ} {f p : File} {ws t₀ : List ℕ} {x : Propagation} where
     module _ (h : k < length ws) where
       -- no clause of that number is live: the sweep goes on at n
       module _ (low : getD ws k 0 < 1048576) {n : ℕ} (en : n ≡ onward ws (k + 1)) where
-        pub onward-more : k < n
-        onward-more = omega (arith, onward-from ws (k + 1))
-
         pub held-skip : ClauseTable f p (length ws) ws → Held vars f p ws t₀ x n t literals clash
         held-skip table =
             record {
               within = omega (arith, onward-within ws (k + 1) table (omega arith));
               kept = held .kept;
               beyond = held .beyond;
-              count = let c = held .count in let m = onward-more in omega arith;
+              count = let c = held .count in let m = onward-more ws k (k + 1) n (omega arith) en in omega arith;
               goes-on = held .goes-on;
               left =
                   rw en

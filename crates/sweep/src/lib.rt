@@ -62,7 +62,7 @@ pub fn sweep<'a>(
     let mut clash = false;
     let mut k: usize = 0;
     'clauses: while k < words.len() {
-        if 1048576 <= words[k] {
+        if lookup::LIVE <= words[k] {
             let clause = lookup::clause_at(formula, proof, words, k);
             let mut i: usize = 0;
             'literals: loop {

@@ -30,13 +30,11 @@ slice-write-words c = search needs
 lower-requires : tie.Need-lower-requires
 lower-requires c κs =
     let s = c .before .before .before .before in
-    omega (arith, s .pre .0, length-set (s .args .words .now) (s .args .n) (c .before .onward .result))
+    rw length-set (omega (arith, s .pre .0))
 
 same-length : tie.Need-same-length
 same-length c =
-    let d = c .before .before .before .before in
-    let s = d .before .before .before in
-    c .before .words .given ∙ length-set (s .args .words .now) (s .args .n) (d .onward .result)
+    c .before .words .given ∙ rw length-set
 
 returns : tie.Need-returns
 returns c =

@@ -173,7 +173,7 @@ onward-requires c κs = search needs
 clauses-less-2 : tie.Need-clauses-less-2 Inv-literals μ-literals Inv-clauses μ-clauses
 clauses-less-2 c =
     let i = c .before .before .before in
-    let m = onward-more (i .before .clauses .inv) (i .clauses-test .taken) (c .before .if1 .left) (c .onward .ensures) in
+    let m = onward-more _ (i .before .clauses .k) _ _ (omega arith) (c .onward .ensures) in
     omega (arith, i .clauses-test .taken)
 
 clauses-again-2 : tie.Need-clauses-again-2 Inv-literals μ-literals Inv-clauses μ-clauses
