@@ -7,7 +7,6 @@ use mathlib.Core.List.{List}
 use native.Mathlib.Omega.{arith}
 use native.Mathlib.Numerals.{add-one}
 use lib.ListN.{length, getD, take}
-use lib.Seq.{length-take-le}
 use Rattle.paper.specs.declared.Reason.{Reason}
 use Rattle.paper.specs.declared.Verdict.{Verdict}
 use Rattle.paper.specs.declared.Verdict.the-variants.{Refuted, Held}
@@ -18,10 +17,8 @@ use Rattle.paper.specs.Answers.{refused, Steps, refuted, held}
 use Rattle.paper.specs.Answers as answers
 use Rattle.paper.proofs.Reading.{Then, Step-read, read-step-seen}
 use Rattle.paper.proofs.Judging.{judged-kept}
-use Rattle.lookup.specs.Clause.{ClauseTable}
 use Rattle.lookup.specs.Live.{live, EmptyLive}
-use Rattle.lookup.proofs.Live.{live-used}
-use Rattle.lookup.proofs.Table.{table-used}
+use Rattle.lookup.proofs.Table.{used-live}
 use Rattle.judging.specs.declared.StepAnswer.the-variants.{Taken, Stopped}
 use Rattle.judging.specs.Step.{Ready, Done, StepIs}
 use Rattle.judging.specs.Step as step
@@ -100,12 +97,7 @@ module _ {f p : File} {vars first : ℕ} {F : Formula} {words t : List ℕ} {at 
 
   -- the numbers in use hold all live clauses
   used : live f p (take (next - 0) words) ≡ live f p words
-  used = let e : next - 0 ≡ next = omega arith in rw e (live-used f p next words (g .now .clauses .unused))
-
-  pub used-table : ClauseTable f p (length (take (next - 0) words)) (take (next - 0) words)
-  used-table =
-      let e : next - 0 ≡ next = omega arith in
-      rw (e, length-take-le next words (omega (arith, g .now .last, g .now .words-long))) (table-used (g .now .clauses))
+  used = used-live (g .now .clauses)
 
   pub end-refuted : length p ≤ at → {b : Bool} → EmptyLive f p (take (next - 0) words) b → b ≡ true → Steps p vars F first 0 0 (Refuted done)
   end-refuted h x e = let y = x .some e in g .leads _ (refuted {n = y .0} h (rw used at (y .1)))

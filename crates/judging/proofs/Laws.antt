@@ -9,7 +9,6 @@ use native.Mathlib.Omega.{arith}
 use native.Mathlib.Decide.{ℕ-discrete}
 use native.Mathlib.Numerals.{add-one}
 use lib.ListN.{length, getD, set, take, drop, length-set}
-use lib.Seq.{length-take-le}
 use Rattle.paper.specs.declared.Reason.{Reason}
 use Rattle.paper.specs.declared.Reason.the-variants.{ProofField, ProofCode, ProofTwice, NumbersUsedUp, ClauseLong}
 use Rattle.paper.specs.declared.Extent.{Extent}
@@ -25,8 +24,7 @@ use Rattle.paper.proofs.Reading.{Then, Ranged, check-clause-then, check-mapping
 use Rattle.paper.proofs.Scan.{length-payload}
 use Rattle.lookup.specs.Clause.{proofWord, ClauseTable}
 use Rattle.lookup.specs.Live.{live}
-use Rattle.lookup.proofs.Live.{live-used}
-use Rattle.lookup.proofs.Table.{table-used}
+use Rattle.lookup.proofs.Table.{used-live, used-length, used-table}
 use Rattle.table.proofs.Kept.{zero-value}
 use Rattle.mapping.specs.Mapping.{Fitting, Bare, variables, loaded, unloaded, saidBy, tableAfter}
 use Rattle.mapping.specs.declared.Loaded.{Loaded}
@@ -222,10 +220,10 @@ module _ {f p : File} {at vars next : ℕ} {words t : List ℕ} {x : Fields} (l 
 
     -- the numbers in use hold all live clauses
     used : live f p (take (next - 0) words) ≡ G
-    used = let e : next - 0 ≡ next = omega arith in rw e (live-used f p next words (l .clauses .unused))
+    used = used-live (l .clauses)
 
-    in-use : length (take (next - 0) words) ≡ next
-    in-use = let e : next - 0 ≡ next = omega arith in rw e (length-take-le next words (omega (arith, l .last, l .words-long)))
+    in-words : next ≤ length words
+    in-words = omega (arith, l .last, l .words-long)
 
     pub new : getD p at 0 ≢ 0x14 → next < 16384 → (clause numbers : List ℕ) → clause ≡ payload p (x .clause) → numbers ≡ payload p (x .numbers)
         → New f p (take (next - 0) words) (getD p at 0) clause numbers vars next t
@@ -235,8 +233,8 @@ module _ {f p : File} {at vars next : ℕ} {words t : List ℕ} {x : Fields} (l 
         record {
           from = i .tag-from;
           to = omega (arith, i .tag-to);
-          limit = omega (arith, in-use);
-          clauses = rw in-use (let e : next - 0 ≡ next = omega arith in rw e (table-used (l .clauses)));
+          limit = omega (arith, used-length (l .clauses) in-words);
+          clauses = used-table (l .clauses) in-words;
           kept = rw used (l .kept);
           new = rw ec (record { codes = c .0; apart = c .1; number = h });
           listed = rw (used, en) listed;

@@ -9,13 +9,13 @@ use native.Mathlib.Omega.{arith}
 use native.Mathlib.Decide.{ℕ-discrete}
 use lib.Dec.{leb}
 use lib.ListN.{length, getD, set, take, drop, length-set}
-use lib.Seq.{getD-set-same, getD-set-other}
+use lib.Seq.{length-take-le, getD-set-same, getD-set-other}
 use Rattle.paper.specs.Files.{File}
 use Rattle.paper.proofs.Lists.{leb-yes, leb-no}
 use Rattle.lookup.specs.Clause.{Entered, Stands, onward, lowered, cleared, Lands, ClauseTable}
-use Rattle.lookup.specs.Live.{live-from}
+use Rattle.lookup.specs.Live.{live-from, live}
 use Rattle.lookup.proofs.Lands.{lands-kept, lands-entered, Lowering, lowering, settled, pointed}
-use Rattle.lookup.proofs.Live.{live-skip}
+use Rattle.lookup.proofs.Live.{live-skip, live-used}
 
 -- words that are all 0, and no number in use
 pub table-start : (f p : File) (ws : List ℕ) → ((j : ℕ) → getD ws j 0 ≡ 0) → ClauseTable f p 1 ws
@@ -45,9 +45,19 @@ getD-used (suc next) [] z n = refl
 getD-used (suc next) (w ∷ ws) z zero = refl
 getD-used (suc next) (w ∷ ws) z (suc n) = getD-used next ws (λ k h. z (suc k) (omega arith)) n
 
--- the words of the numbers in use
-pub table-used : {f p : File} {next : ℕ} {ws : List ℕ} → ClauseTable f p next ws → ClauseTable f p next (take next ws)
-table-used {f} {p} {next} {ws} t = table-same (getD-used next ws (t .unused)) t
+-- the words of the numbers in use, as the code cuts them out: the same clauses are live, and they are a table of their own
+module _ {f p : File} {next : ℕ} {ws : List ℕ} (t : ClauseTable f p next ws) where
+  all : next - 0 ≡ next
+  all = omega arith
+
+  pub used-live : live f p (take (next - 0) ws) ≡ live f p ws
+  used-live = rw all (live-used f p next ws (t .unused))
+
+  pub used-length : next ≤ length ws → length (take (next - 0) ws) ≡ next
+  used-length h = rw all (length-take-le next ws h)
+
+  pub used-table : next ≤ length ws → ClauseTable f p (length (take (next - 0) ws)) (take (next - 0) ws)
+  used-table h = rw (all, length-take-le next ws h) (table-same (getD-used next ws (t .unused)) t)
 
 -- a clause entered under the next number
 pub table-entered : {f p : File} {n : ℕ} {ws : List ℕ} → ClauseTable f p n ws → n < length ws → (w : ℕ) → Entered w → Stands f p w

@@ -5,7 +5,8 @@ use borrow.Author.Needs.{needs}
 use native.Mathlib.Omega.{arith}
 use lib.ListN.{length}
 use Rattle.lookup.specs.Live.{live}
-use Rattle.answers.proofs.Run.{Going, at-start, ready, taken-further, going-on, stopped, used-table, end-refuted, end-held}
+use Rattle.lookup.proofs.Table.{used-table}
+use Rattle.answers.proofs.Run.{Going, at-start, ready, taken-further, going-on, stopped, end-refuted, end-held}
 use Rattle.answers.proofs.run_steps.Statement.{statement}
 use Rattle.answers.proofs.run_steps.Tie as tie
 
@@ -63,7 +64,7 @@ part-used-end : tie.Need-part-used-end Inv-loop μ-loop
 part-used-end c = let g = c .before .before .loop .inv in omega (arith, g .now .last, g .now .words-long)
 
 has-empty-requires : tie.Need-has-empty-requires Inv-loop μ-loop
-has-empty-requires c κs = used-table (c .before .before .before .loop .inv)
+has-empty-requires c κs = let g = c .before .before .before .loop .inv in used-table (g .now .clauses) (omega (arith, g .now .last, g .now .words-long))
 
 same-length-3 : tie.Need-same-length-3 Inv-loop μ-loop
 same-length-3 c = search needs
