@@ -55,17 +55,17 @@ module _ {f p : File} {vars first : ℕ} {F : Formula} {words t : List ℕ} {at 
   seen s later e =
       subst (Then (λ (x : Step × ℕ). Step-read p vars (live f p words) next at (x .0) (x .1))) e (read-step-seen p vars (live f p words) next at)
 
-  pub taken-further : {m later : ℕ} {words′ t′ : List ℕ} → Done f p at vars next words t (Taken m later) words′ t′ → (at < later) × (later ≤ length p)
+  pub taken-further : {m later : ℕ} {words′ t′ : List ℕ} → Done f p at vars next words t (Taken m (record { at = later })) words′ t′ → (at < later) × (later ≤ length p)
   taken-further d = go (d .answer)
     where
-      go : {a b : ℕ} {G : Formula} → StepIs p vars (live f p words) next at (Taken a b) G → (at < b) × (b ≤ length p)
+      go : {a b : ℕ} {G : Formula} → StepIs p vars (live f p words) next at (Taken a (record { at = b })) G → (at < b) × (b ≤ length p)
       go (step.goes-on {t = s} {later = l} e j) = let r = seen s l e in (r .further, r .inside)
 
-  pub going-on : at < length p → {m later : ℕ} {words′ t′ : List ℕ} → Done f p at vars next words t (Taken m later) words′ t′
+  pub going-on : at < length p → {m later : ℕ} {words′ t′ : List ℕ} → Done f p at vars next words t (Taken m (record { at = later })) words′ t′
       → Going f p vars first F words′ t′ later m (done + 1)
   going-on h {m} {later} {words′} {t′} d = go (d .answer) (taken-further d)
     where
-      go : StepIs p vars (live f p words) next at (Taken m later) (live f p words′) → (at < later) × (later ≤ length p)
+      go : StepIs p vars (live f p words) next at (Taken m (record { at = later })) (live f p words′) → (at < later) × (later ≤ length p)
           → Going f p vars first F words′ t′ later m (done + 1)
       go (step.goes-on {t = s} e j) far =
           let r = seen s later e in

@@ -1,4 +1,5 @@
 // The whole of a call whose work memory is long enough: both files' lengths, the formula, then the steps.
+use field::Cursor;
 use judging::StepAnswer;
 use paper::Reason;
 use paper::Refusal;
@@ -23,14 +24,14 @@ fn run_steps<'a>(
     requires { ⌜ Start (now formula) (now proof) vars first (now words) (now t) ⌝ }
     ensures { λ r. ⌜ Steps (now (proof .entry)) vars (live (now (formula .entry)) (now (proof .entry)) (now (words .entry))) first 0 0 r ⌝ }
 {
-    let mut at: usize = 0;
+    let mut c = Cursor { at: 0 };
     let mut next = first;
     let mut done: usize = 0;
-    while at < proof.len() {
-        match judging::take_step(formula, proof, at, vars, next, words, t) {
-            StepAnswer::Taken { next: n, at: a } => {
+    while c.at < proof.len() {
+        match judging::take_step(formula, proof, c, vars, next, words, t) {
+            StepAnswer::Taken { next: n, later } => {
                 next = n;
-                at = a;
+                c = later;
                 done += 1;
             }
             StepAnswer::Stopped { reason, place } => {

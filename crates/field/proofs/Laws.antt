@@ -6,7 +6,7 @@ use mathlib.Core.Logic.{_≢_}
 use mathlib.Core.Bool.{Bool, true, false}
 use native.Mathlib.Omega.{arith}
 use lib.Dec.{eqb, leb}
-use lib.ListN.{length, getD}
+use lib.ListN.{length, getD, List·getD-eq-default}
 use Rattle.paper.specs.declared.Reason.{Reason}
 use Rattle.paper.specs.declared.Extent.{Extent}
 use Rattle.paper.specs.Files.{File, Read, ok, bad, _>>_, need, two, past, field}
@@ -42,6 +42,25 @@ module _ (f : File) (at : ℕ) where
       rw
       e
       (simp (leb-beyond (length f) at h, leb-within (at + 3) (length f) (omega arith), leb-within (at + 3 + two f (at + 1)) (length f) (omega arith), fieldAt))
+
+-- the tag that was read; none at the end
+abbrev pub tagOf : FieldRead → ℕ
+tagOf (Whole t e next) = t
+tagOf (Cut t n) = t
+tagOf (Short t) = t
+tagOf End = 0
+
+-- it is the byte at the place, whatever the field is like
+pub tag-read : (f : File) (at : ℕ) (x : FieldRead) (t : ℕ) → x ≡ fieldAt f at → t ≡ tagOf x → t ≡ getD f at 0
+unfolding fieldAt
+tag-read f at x t e h = h ∙ ap tagOf e ∙ go (leb (length f) at) (leb (at + 3) (length f)) (leb (at + 3 + two f (at + 1)) (length f)) refl refl refl
+  where
+    go : (a b c : Bool) → leb (length f) at ≡ a → leb (at + 3) (length f) ≡ b → leb (at + 3 + two f (at + 1)) (length f) ≡ c
+        → tagOf (fieldAt f at) ≡ getD f at 0
+    go true b c p q r = rw (p, fieldAt) (sym (List·getD-eq-default f 0 (leb-yes _ _ p)))
+    go false false c p q r = simp (p, q, fieldAt)
+    go false true false p q r = simp (p, q, r, fieldAt)
+    go false true true p q r = simp (p, q, r, fieldAt)
 
 -- found: the reading finds that extent, and the cursor stands past it
 module _ (e : Extent) (n : Cursor) where

@@ -121,10 +121,9 @@ pub fn judge(read: FieldRead, tag: u8, l: Length) -> Expected
     }
 }
 
-pub fn expect(s: &[u8], at: usize, tag: u8, l: Length) -> Expected
-    ensures { λ r. ⌜ ((why : Reason) → r ≡ expectedOf (field why tag (allowedBy l) (now (s .entry)) at)) ⌝ }
+pub fn expect(s: &[u8], c: Cursor, tag: u8, l: Length) -> Expected
+    ensures { λ r. ⌜ ((why : Reason) → r ≡ expectedOf (field why tag (allowedBy l) (now (s .entry)) (c .at))) ⌝ }
 {
-    let c = Cursor { at };
     let read = c.field(s);
     judge(read, tag, l)
 }

@@ -44,6 +44,7 @@ use Rattle.loading.proofs.Trivial.{images-inward}
 use Rattle.judging.specs.declared.Judgement.{Judgement}
 use Rattle.judging.specs.declared.Judgement.the-variants.{Passed, Stopped}
 use Rattle.judging.specs.declared.StepAnswer.{StepAnswer}
+use Rattle.field.specs.declared.Cursor.{Cursor}
 use Rattle.judging.specs.declared.StepAnswer.the-variants.{Taken}
 use Rattle.judging.specs.Step as step
 use Rattle.judging.specs.Step.{outcome, New, NewJudged, JudgementIs, unread, judged, Checkable, Loadable, Ready, words-after, Done}
@@ -225,29 +226,31 @@ module _ {f p : File} {at vars next : ℕ} {words t : List ℕ} {x : Fields} (l 
     in-words : next ≤ length words
     in-words = omega (arith, l .last, l .words-long)
 
-    pub new : getD p at 0 ≢ 0x14 → next < 16384 → (clause numbers : List ℕ) → clause ≡ payload p (x .clause) → numbers ≡ payload p (x .numbers)
-        → New f p (take (next - 0) words) (getD p at 0) clause numbers vars next t
-    new ne h clause numbers ec en =
+    -- tag is what was read of the step's tag
+    pub new : (tag : ℕ) → tag ≡ getD p at 0 → tag ≢ 0x14 → next < 16384 → (clause numbers : List ℕ) → clause ≡ payload p (x .clause)
+        → numbers ≡ payload p (x .numbers) → New f p (take (next - 0) words) tag clause numbers vars next t
+    new tag seen ne h clause numbers ec en =
         let i = lie p at x (l .fields) in
         let c = subst (Then (λ _. Codes vars C × Apart C)) (l .clause) (check-clause-then ProofCode ProofTwice vars at C) in
         record {
-          from = i .tag-from;
+          from = omega (arith, i .tag-from);
           to = omega (arith, i .tag-to);
           limit = omega (arith, used-length (l .clauses) in-words);
           clauses = used-table (l .clauses) in-words;
           kept = rw used (l .kept);
           new = rw ec (record { codes = c .0; apart = c .1; number = h });
           listed = rw (used, en) listed;
-          none-listed = λ b. rw en (no-codes p (x .numbers) (i .no-numbers b));
+          none-listed = λ b. rw en (no-codes p (x .numbers) (i .no-numbers (omega arith)));
           table = l .table;
           inward = images-inward vars t s (l .table .small) (l .images) (λ v a m. (ranged v a m) .2);
         }
 
-    pub new-judged : getD p at 0 ≢ 0x14 → next < 16384 → (clause numbers : List ℕ) → clause ≡ payload p (x .clause) → numbers ≡ payload p (x .numbers)
-        → (r : Judgement) → NewJudged f p (take (next - 0) words) (getD p at 0) clause numbers vars next t r → JudgementIs p vars G next at x r
-    new-judged ne h clause numbers ec en r j =
-        judged (new-read p vars G next at x (l .fields) (l .clause) (l .mapped) (l .once) fine ne h) (λ _. h) listed
-        (rw (used, ec, en) at (j s (l .images)))
+    pub new-judged : (tag : ℕ) → tag ≡ getD p at 0 → tag ≢ 0x14 → next < 16384 → (clause numbers : List ℕ) → clause ≡ payload p (x .clause)
+        → numbers ≡ payload p (x .numbers) → (r : Judgement) → NewJudged f p (take (next - 0) words) tag clause numbers vars next t r
+        → JudgementIs p vars G next at x r
+    new-judged tag seen ne h clause numbers ec en r j =
+        judged (new-read p vars G next at x (l .fields) (l .clause) (l .mapped) (l .once) fine (λ e. ne (seen ∙ e)) h) (λ _. h) listed
+        (rw (used, ec, en, seen) at (j s (l .images)))
 
 -- 4. The step taken into the clause table.
 module _ {f p : File} {at vars next : ℕ} {words t : List ℕ} (r : Ready f p at vars next words t) where
@@ -283,18 +286,19 @@ module _ {f p : File} {at vars next : ℕ} {words t : List ℕ} (r : Ready f p a
             | false ↦ taken (after (numbers-of p x) next (clause-of p x) (live f p words)) (suc next)
           ]
 
-      module _ (fields : read-fields p at ≡ ok x) (us : List ℕ) (e : us ≡ removed words (numbers-of p x)) where
+      module _ (fields : read-fields p at ≡ ok x) (later : Cursor) (past : later ≡ record { at = x .next }) (us : List ℕ)
+          (e : us ≡ removed words (numbers-of p x)) where
         room : next ≤ length words
         room = omega (arith, r .last, r .words-long)
 
-        pub deleted-done : getD p at 0 ≡ 0x14 → Done f p at vars next words t (Taken next (x .next)) us u
+        pub deleted-done : getD p at 0 ≡ 0x14 → Done f p at vars next words t (Taken next later) us u
         unfolding outcome words-after
-        deleted-done d = go passed
+        deleted-done d = rw past (go passed)
           where
             now : (live f p (removed words (numbers-of p x)) ≡ without (numbers-of p x) (live f p words)) × ClauseTable f p next (removed words (numbers-of p x))
             now = after-removing (r .clauses) (r .last) room (numbers-of p x) numbers-used
 
-            go : JudgementIs p vars (live f p words) next at x Passed → Done f p at vars next words t (Taken next (x .next)) us u
+            go : JudgementIs p vars (live f p words) next at x Passed → Done f p at vars next words t (Taken next (record { at = x .next })) us u
             go (judged {t = s} q h n j) =
                 record {
                   answer = step.goes-on {m = next} {G = live f p us} q
@@ -311,9 +315,9 @@ module _ {f p : File} {at vars next : ℕ} {words t : List ℕ} (r : Ready f p a
                 }
 
         pub added-done : getD p at 0 ≢ 0x14 → (ws : List ℕ) (w : ℕ) → ws ≡ set us next w → w ≡ proofWord at
-            → Done f p at vars next words t (Taken (next + 1) (x .next)) ws u
+            → Done f p at vars next words t (Taken (next + 1) later) ws u
         unfolding outcome words-after
-        added-done ne ws w ew at-word = go passed
+        added-done ne ws w ew at-word = rw past (go passed)
           where
             contents : ws ≡ set (removed words (numbers-of p x)) next (proofWord at)
             contents = ew ∙ ap (λ (y : ℕ). set us next y) at-word ∙ ap (λ (y : List ℕ). set y next (proofWord at)) e
@@ -327,7 +331,7 @@ module _ {f p : File} {at vars next : ℕ} {words t : List ℕ} (r : Ready f p a
                 after-adding (r .clauses) (r .last) room (numbers-of p x) numbers-used ProofField (getD p at 0) at (x .clause)
                 (omega (arith, r .place, r .proof-short)) (omega (arith, small, r .words-long)) ((lie p at x fields) .new ne)
 
-            go : JudgementIs p vars (live f p words) next at x Passed → Done f p at vars next words t (Taken (next + 1) (x .next)) ws u
+            go : JudgementIs p vars (live f p words) next at x Passed → Done f p at vars next words t (Taken (next + 1) (record { at = x .next })) ws u
             go (judged {t = s} q h n j) =
                 record {
                   answer = rw add-one (step.goes-on {m = suc next} {G = live f p ws} q

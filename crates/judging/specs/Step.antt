@@ -66,7 +66,7 @@ pub data StepIs (proof : File) (vars : ℕ) (F : Formula) (next at : ℕ) : Step
   refused : {t : Step} {later : ℕ} {r : Reason} {p : ℕ} → read-step proof vars F next at ≡ ok (t, later) → Judged F next t (stops r p)
       → StepIs proof vars F next at (StepAnswer.Stopped r p) F
   goes-on : {t : Step} {later m : ℕ} {G : Formula} → read-step proof vars F next at ≡ ok (t, later) → Judged F next t (taken G m)
-      → StepIs proof vars F next at (Taken m later) G
+      → StepIs proof vars F next at (Taken m (record { at = later })) G
 
 -- What is asked of a step's place, of the clause table and of the table of variables: nothing that a caller does not know from the step
 -- before.

@@ -1,6 +1,7 @@
 // One step of a proof: its fields read, checked in the paper's order, judged, and taken into the clause table.
 use clauses::ClauseCheck;
 use conditions::Failing;
+use field::Cursor;
 use mapping::Loaded;
 use paper::Extent;
 use paper::Fields;
@@ -141,27 +142,27 @@ fn judge_new<'a>(
 fn judge_loaded<'a>(
     formula: &'a [u8],
     proof: &'a [u8],
-    at: usize,
+    first: Cursor,
     x: Fields,
     vars: usize,
     next: usize,
     words: &[u32],
     t: &mut [u8],
 ) -> Judgement
-    requires { ⌜ Loadable (now formula) (now proof) at x vars next (now words) (now t) ⌝ }
-    ensures answer { λ r. ⌜ JudgementIs (now (proof .entry)) vars (live (now (formula .entry)) (now (proof .entry)) (now (words .entry))) next at x r ⌝ }
+    requires { ⌜ Loadable (now formula) (now proof) (first .at) x vars next (now words) (now t) ⌝ }
+    ensures answer { λ r. ⌜ JudgementIs (now (proof .entry)) vars (live (now (formula .entry)) (now (proof .entry)) (now (words .entry))) next (first .at) x r ⌝ }
     ensures table { λ r. ⌜ now (t .exit) ≡ now (t .entry) ⌝ }
 {
     let n = x.numbers;
     if let Checked::At(place) = steps::check_numbers(proof, n, words) {
         return stopped(Reason::NumberNotLive, place);
     }
-    let tag = proof[at];
+    let tag = reader::tag_at(proof, first);
     if tag == 0x14 {
         return Judgement::Passed;
     }
     if 16384 <= next {
-        return stopped(Reason::NumbersUsedUp, at);
+        return stopped(Reason::NumbersUsedUp, first.at);
     }
     let c = x.clause;
     let used = &words[0..next];
@@ -182,15 +183,15 @@ fn judge_loaded<'a>(
 fn judge_fields<'a>(
     formula: &'a [u8],
     proof: &'a [u8],
-    at: usize,
+    first: Cursor,
     x: Fields,
     vars: usize,
     next: usize,
     words: &[u32],
     t: &mut [u8],
 ) -> Judgement
-    requires { ⌜ Checkable (now formula) (now proof) at x vars next (now words) (now t) ⌝ }
-    ensures answer { λ r. ⌜ JudgementIs (now (proof .entry)) vars (live (now (formula .entry)) (now (proof .entry)) (now (words .entry))) next at x r ⌝ }
+    requires { ⌜ Checkable (now formula) (now proof) (first .at) x vars next (now words) (now t) ⌝ }
+    ensures answer { λ r. ⌜ JudgementIs (now (proof .entry)) vars (live (now (formula .entry)) (now (proof .entry)) (now (words .entry))) next (first .at) x r ⌝ }
     ensures table { λ r. ⌜ now (t .exit) ≡ now (t .entry) ⌝ }
 {
     let c = x.clause;
@@ -202,7 +203,7 @@ fn judge_fields<'a>(
             return stopped(Reason::ProofTwice, place);
         }
         ClauseCheck::Long => {
-            return stopped(Reason::ClauseLong, at);
+            return stopped(Reason::ClauseLong, first.at);
         }
         ClauseCheck::Fine => {}
     }
@@ -214,46 +215,49 @@ fn judge_fields<'a>(
     if let Loaded::Twice(i) = mapping::load_witness(witness, t) {
         return stopped(Reason::ProofTwice, w.start + i);
     }
-    let r = judge_loaded(formula, proof, at, x, vars, next, words, t);
+    let r = judge_loaded(formula, proof, first, x, vars, next, words, t);
     mapping::unload_witness(witness, t);
     r
 }
 
-// A step that is taken leaves the next number and the place past it.
+// A step that is taken leaves the next number and the cursor past it.
 pub enum StepAnswer {
-    Taken { next: usize, at: usize },
+    Taken { next: usize, later: Cursor },
     Stopped { reason: Reason, place: usize },
 }
 
 pub fn take_step<'a>(
     formula: &'a [u8],
     proof: &'a [u8],
-    at: usize,
+    first: Cursor,
     vars: usize,
     next: usize,
     words: &mut [u32],
     t: &mut [u8],
 ) -> StepAnswer
-    requires { ⌜ Ready (now formula) (now proof) at vars next (now words) (now t) ⌝ }
-    ensures { λ r. ⌜ Done (now (formula .entry)) (now (proof .entry)) at vars next (now (words .entry)) (now (t .entry)) r (now (words .exit)) (now (t .exit)) ⌝ }
+    requires { ⌜ Ready (now formula) (now proof) (first .at) vars next (now words) (now t) ⌝ }
+    ensures { λ r. ⌜ Done (now (formula .entry)) (now (proof .entry)) (first .at) vars next (now (words .entry)) (now (t .entry)) r (now (words .exit)) (now (t .exit)) ⌝ }
 {
-    match steps::read_fields(proof, at) {
+    match steps::read_fields(proof, first) {
         FieldsRead::Bad(place) => StepAnswer::Stopped {
             reason: Reason::ProofField,
             place,
         },
-        FieldsRead::Whole(x) => match judge_fields(formula, proof, at, x, vars, next, words, t) {
+        FieldsRead::Whole {
+            fields: x,
+            next: later,
+        } => match judge_fields(formula, proof, first, x, vars, next, words, t) {
             Judgement::Stopped { reason, place } => StepAnswer::Stopped { reason, place },
             Judgement::Passed => {
                 let n = x.numbers;
                 steps::remove_numbers(proof, n, words);
-                if proof[at] == 0x14 {
-                    return StepAnswer::Taken { next, at: x.next };
+                if reader::tag_at(proof, first) == 0x14 {
+                    return StepAnswer::Taken { next, later };
                 }
-                lookup::enter(words, next, lookup::proof_word(at));
+                lookup::enter(words, next, lookup::proof_word(first.at));
                 StepAnswer::Taken {
                     next: next + 1,
-                    at: x.next,
+                    later,
                 }
             }
         },

@@ -42,6 +42,7 @@ module _ (f : File) where
       pub head-taken : m ≤ 16383 → (first : ℕ) → first ≡ past e → HeadTaken f v m first
       unfolding read-formula ended past _>>=_ _>>_ need
       head-taken k first g = record {
+        given = (a, b);
         variables = h;
         clauses = k;
         place = let s = stands FormulaField 0x01 four f 0 e q in let n = head-size in let w : past e ≡ e .start + e .size = refl in omega arith;

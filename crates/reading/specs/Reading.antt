@@ -8,7 +8,7 @@ use Rattle.paper.specs.declared.Reason.{Reason}
 use Rattle.paper.specs.declared.Reason.the-variants.{FormulaField, FormulaEnd}
 use Rattle.paper.specs.declared.Extent.{Extent}
 use Rattle.paper.specs.Atoms.{Formula}
-use Rattle.paper.specs.Files.{File, Read, ok, bad, _>>=_, _>>_, need, payload, past, field, even, codes}
+use Rattle.paper.specs.Files.{File, Read, ok, bad, _>>=_, _>>_, need, two, payload, past, field, even, codes}
 use Rattle.paper.specs.Refusals.{read-clauses, read-formula}
 use Rattle.field.specs.Field.{extentAt}
 use Rattle.lookup.specs.Clause.{formulaWord, ClauseTable}
@@ -27,15 +27,16 @@ ended f vars m x = do
   need (leb (length f) (F .1)) FormulaEnd (F .1)
   ok (vars, F .0, suc m)
 
--- HEAD was read: V and m are within their limits, and the clauses follow at the place first
+-- HEAD was read: V and m are those that it gives, within their limits, and the clauses follow at the place first
 pub record HeadTaken (f : File) (vars m first : ℕ) : Type 0 where
+  pub given : (vars ≡ two f 3) × (m ≡ two f 5)
   pub variables : vars ≤ 4095
   pub clauses : m ≤ 16383
   pub place : first ≡ 7
   pub read : read-formula f ≡ ended f vars m (read-clauses f vars m 1 first)
 
 abbrev pub HeadSaid : File → HeadRead → Type 0
-HeadSaid f (Limits vars m first) = HeadTaken f vars m first
+HeadSaid f (Limits vars m first) = HeadTaken f vars m (first .at)
 HeadSaid f (BadHead reason place) = read-formula f ≡ bad reason place
 
 -- clauses in front of those that are read
@@ -52,7 +53,7 @@ pub record ClauseTaken (f : File) (vars at next : ℕ) : Type 0 where
   pub read : (m n : ℕ) → read-clauses f vars (suc m) n at ≡ prepend ((n, codes (payload f extent)) ∷ []) (read-clauses f vars m (suc n) next)
 
 abbrev pub ClauseSaid : File → ℕ → ℕ → ClauseRead → Type 0
-ClauseSaid f vars at (Next next) = ClauseTaken f vars at next
+ClauseSaid f vars at (Next next) = ClauseTaken f vars at (next .at)
 ClauseSaid f vars at (BadClause reason place) = (m n : ℕ) → read-clauses f vars (suc m) n at ≡ bad reason place
 
 -- the words with the m fields that stand one after the other from a place on entered, under the numbers from n on
@@ -67,7 +68,7 @@ pub record ClausesTaken (f : File) (vars m first at : ℕ) (ws₀ ws : List ℕ)
   pub table : (p : File) → ClauseTable f p (m + 1) ws
 
 abbrev pub ClausesSaid : File → ℕ → ℕ → ℕ → List ℕ → List ℕ → ClauseRead → Type 0
-ClausesSaid f vars m first ws₀ ws (Next at) = ClausesTaken f vars m first at ws₀ ws
+ClausesSaid f vars m first ws₀ ws (Next c) = ClausesTaken f vars m first (c .at) ws₀ ws
 ClausesSaid f vars m first ws₀ ws (BadClause reason place) = read-clauses f vars m 1 first ≡ bad reason place
 
 -- A formula was read: its clauses, which follow HEAD's seven bytes, are entered, and are the live ones, whatever the proof is.

@@ -1,5 +1,6 @@
 // A formula is HEAD, then m CLAUSE fields, and nothing more. Each clause is entered into the clause table under its number.
 use clauses::ClauseCheck;
+use field::Cursor;
 use field::Expected;
 use field::Length;
 use paper::Reason;
@@ -9,12 +10,12 @@ ghost use lib.ListN.{length};
 ghost use Rattle.table.specs.Table.{Zero};
 ghost use Rattle.reading.specs.Reading.{HeadSaid, ClauseSaid, ClausesSaid, FormulaSaid};
 
-// V, m and the place past HEAD; or what is wrong with HEAD.
+// V, m and the cursor past HEAD; or what is wrong with HEAD.
 pub enum HeadRead {
     Limits {
         vars: usize,
         clauses: usize,
-        first: usize,
+        first: Cursor,
     },
     Bad {
         reason: Reason,
@@ -25,7 +26,7 @@ pub enum HeadRead {
 fn read_head(formula: &[u8]) -> HeadRead
     ensures { λ r. ⌜ HeadSaid (now (formula .entry)) r ⌝ }
 {
-    let head = field::expect(formula, 0, 1, Length::Four);
+    let head = field::expect(formula, Cursor { at: 0 }, 1, Length::Four);
     match head {
         Expected::Found { extent: _, next } => {
             let vars = field::pair_at(formula, 3);
@@ -45,7 +46,7 @@ fn read_head(formula: &[u8]) -> HeadRead
             HeadRead::Limits {
                 vars,
                 clauses,
-                first: next.at,
+                first: next,
             }
         }
         Expected::Wrong => HeadRead::Bad {
@@ -55,32 +56,33 @@ fn read_head(formula: &[u8]) -> HeadRead
     }
 }
 
-// The place past what was read; or what is wrong with it.
+// The cursor past what was read; or what is wrong with it.
 pub enum ClauseRead {
-    Next(usize),
+    Next(Cursor),
     Bad { reason: Reason, place: usize },
 }
 
-// The clause whose tag is at a place.
-fn read_clause(formula: &[u8], at: usize, vars: usize, t: &mut [u8]) -> ClauseRead
+// The clause whose tag is at the cursor.
+fn read_clause(formula: &[u8], c: Cursor, vars: usize, t: &mut [u8]) -> ClauseRead
     requires { ⌜ (vars ≤ 4095) × ((8192 ≤ length (now t)) × Zero (now t)) ⌝ }
-    ensures said { λ r. ⌜ ClauseSaid (now (formula .entry)) vars at r ⌝ }
+    ensures said { λ r. ⌜ ClauseSaid (now (formula .entry)) vars (c .at) r ⌝ }
     ensures table { λ _. ⌜ now (t .exit) ≡ now (t .entry) ⌝ }
 {
+    let at = c.at;
     if formula.len() <= at {
         return ClauseRead::Bad {
             reason: Reason::FormulaEnd,
             place: at,
         };
     }
-    let Expected::Found { extent: e, next } = field::expect(formula, at, 2, Length::Even) else {
+    let Expected::Found { extent: e, next } = field::expect(formula, c, 2, Length::Even) else {
         return ClauseRead::Bad {
             reason: Reason::FormulaField,
             place: at,
         };
     };
     match clauses::check_clause(formula, e, vars, t) {
-        ClauseCheck::Fine => ClauseRead::Next(next.at),
+        ClauseCheck::Fine => ClauseRead::Next(next),
         ClauseCheck::Range(place) => ClauseRead::Bad {
             reason: Reason::FormulaCode,
             place,
@@ -96,26 +98,26 @@ fn read_clause(formula: &[u8], at: usize, vars: usize, t: &mut [u8]) -> ClauseRe
     }
 }
 
-// The clauses from the place past HEAD on, each entered under its number.
+// The clauses from the cursor past HEAD on, each entered under its number.
 fn enter_clauses(
     formula: &[u8],
     vars: usize,
     m: usize,
-    first: usize,
+    first: Cursor,
     words: &mut [u32],
     t: &mut [u8],
 ) -> ClauseRead
     requires { ⌜ (length (now formula) ≤ 1048576) × ((vars ≤ 4095) × ((m < length (now words)) × (Zero (now words) × ((8192 ≤ length (now t)) × Zero (now t))))) ⌝ }
-    ensures said { λ r. ⌜ ClausesSaid (now (formula .entry)) vars m first (now (words .entry)) (now (words .exit)) r ⌝ }
+    ensures said { λ r. ⌜ ClausesSaid (now (formula .entry)) vars m (first .at) (now (words .entry)) (now (words .exit)) r ⌝ }
     ensures table { λ _. ⌜ now (t .exit) ≡ now (t .entry) ⌝ }
 {
-    let mut at: usize = first;
+    let mut c = first;
     let mut k: usize = 1;
     while k <= m {
-        match read_clause(formula, at, vars, t) {
+        match read_clause(formula, c, vars, t) {
             ClauseRead::Next(next) => {
-                lookup::enter(words, k, lookup::formula_word(at));
-                at = next;
+                lookup::enter(words, k, lookup::formula_word(c.at));
+                c = next;
             }
             ClauseRead::Bad { reason, place } => {
                 return ClauseRead::Bad { reason, place };
@@ -123,7 +125,7 @@ fn enter_clauses(
         }
         k += 1;
     }
-    ClauseRead::Next(at)
+    ClauseRead::Next(c)
 }
 
 // The number of variables, and the number that the next clause would get; or what is wrong with the formula.
@@ -148,7 +150,8 @@ pub fn read_formula(formula: &[u8], words: &mut [u32], t: &mut [u8]) -> FormulaR
                 memory::zero_words(words);
                 FormulaRead::Bad { reason, place }
             }
-            ClauseRead::Next(at) => {
+            ClauseRead::Next(c) => {
+                let at = c.at;
                 if at < formula.len() {
                     memory::zero_words(words);
                     return FormulaRead::Bad {

@@ -1,7 +1,7 @@
 -- The fields of a step: what the code's answer says of the paper's reading, and where they lie.
 -- Assumes nothing.
 use Prim.Native.Nat.{ℕ, _+_, _%_, _≤_, _<_}
-use mathlib.Core.Path.{_≡_, refl, ap, subst}
+use mathlib.Core.Path.{_≡_, refl, sym, ap, _∙_, subst}
 use mathlib.Core.Logic.{_≢_}
 use mathlib.Core.Bool.{Bool, true, false, true≢false}
 use native.Mathlib.Omega.{arith}
@@ -230,22 +230,34 @@ lie f at x q = subst (Then (Lie f at)) q (then-lie f at)
 
 -- 4. The code's answer from the paper's reading, and what a caller concludes from it.
 module _ (f : File) (at : ℕ) where
-  -- p is where the cursor stands that was handed back, n the place that the paper's reading gives
-  pub as-whole : (c w e : Extent) (p n : ℕ) → p ≡ n → read-fields f at ≡ ok (record { clause = c; witness = w; numbers = e; next = n })
-      → Whole (record { clause = c; witness = w; numbers = e; next = p }) ≡ fieldsOf (read-fields f at)
+  -- past is the cursor that was handed back, n the place that the paper's reading gives
+  pub as-whole : (c w e : Extent) (past : Cursor) (n : ℕ) → past .at ≡ n → read-fields f at ≡ ok (record { clause = c; witness = w; numbers = e; next = n })
+      → Whole (record { clause = c; witness = w; numbers = e; next = past .at }) past ≡ fieldsOf (read-fields f at)
   unfolding fieldsOf
-  as-whole c w e p n h q = rw h (rw q)
+  as-whole c w e past n h q = rw (q, fieldsOf) (ap (λ (p : ℕ). Whole (record { clause = c; witness = w; numbers = e; next = p }) (record { at = p })) h)
 
   pub as-bad : (p n : ℕ) → p ≡ n → read-fields f at ≡ bad ProofField n → Bad p ≡ fieldsOf (read-fields f at)
   unfolding fieldsOf
   as-bad p n h q = rw h (rw q)
 
-  pub whole : (x : Fields) → Whole x ≡ fieldsOf (read-fields f at) → read-fields f at ≡ ok x
+  pub whole : (x : Fields) (next : Cursor) → Whole x next ≡ fieldsOf (read-fields f at) → read-fields f at ≡ ok x
   unfolding fieldsOf
-  whole x q = go (read-fields f at) q
+  whole x next q = go (read-fields f at) q
     where
-      go : (m : Read Fields) → Whole x ≡ fieldsOf m → m ≡ ok x
+      go : (m : Read Fields) → Whole x next ≡ fieldsOf m → m ≡ ok x
       go (ok y) q = cc
+      go (bad r p) q = let z : _≡_ {A = ℕ} 0 1 = cc in absurd (omega arith)
+
+  -- the cursor that is handed on stands where the paper's reading goes on
+  pub whole-next : (x : Fields) (next : Cursor) → Whole x next ≡ fieldsOf (read-fields f at) → next ≡ record { at = x .next }
+  unfolding fieldsOf
+  whole-next x next q = go (read-fields f at) q
+    where
+      go : (m : Read Fields) → Whole x next ≡ fieldsOf m → next ≡ record { at = x .next }
+      go (ok y) q =
+          let u : x ≡ y = cc in
+          let v : next ≡ record { at = y .next } = cc in
+          v ∙ ap (λ (z : Fields). record { at = z .next }) (sym u)
       go (bad r p) q = let z : _≡_ {A = ℕ} 0 1 = cc in absurd (omega arith)
 
   pub refused : (p : ℕ) → Bad p ≡ fieldsOf (read-fields f at) → read-fields f at ≡ bad ProofField p

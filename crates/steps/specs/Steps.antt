@@ -11,9 +11,9 @@ use Rattle.steps.specs.declared.FieldsRead.the-variants.{Whole, Bad}
 use Rattle.steps.specs.declared.Checked.{Checked}
 use Rattle.steps.specs.declared.Checked.the-variants.{Fine, At}
 
--- what the paper's reading of a step's fields finds, but for the reason
+-- what the paper's reading of a step's fields finds, and the cursor past them, but for the reason
 unfoldable pub fieldsOf : Read Fields → FieldsRead
-fieldsOf (ok x) = Whole x
+fieldsOf (ok x) = Whole x (record { at = x .next })
 fieldsOf (bad r p) = Bad p
 
 -- what the paper says of a field that was checked for one reason

@@ -6,7 +6,7 @@ use field::Length;
 use paper::Extent;
 use paper::Fields;
 ghost use mathlib.Core.Path.{_≡_};
-ghost use Prim.Native.Nat.{_+_, _%_, _≤_, _<_};
+ghost use Prim.Native.Nat.{_+_, _%_, _≤_};
 ghost use lib.ListN.{length};
 ghost use Rattle.paper.specs.declared.Reason.the-variants.{ProofCode, NumberNotLive};
 ghost use Rattle.paper.specs.Files.{File, payload, codes, mappings};
@@ -15,9 +15,10 @@ ghost use Rattle.field.specs.Field.{allowedBy, expectedOf};
 ghost use Rattle.lookup.specs.Live.{live};
 ghost use Rattle.steps.specs.Steps.{fieldsOf, checkedBy, removed, Below};
 
-// The fields of a step; or the place where one is missing, has the wrong tag, is cut short or has a length that is not allowed.
+// The fields of a step and the cursor past them; or the place where one is missing, has the wrong tag, is cut short or has a length that
+// is not allowed.
 pub enum FieldsRead {
-    Whole(Fields),
+    Whole { fields: Fields, next: Cursor },
     Bad(usize),
 }
 
@@ -31,53 +32,60 @@ fn within(low: u8, high: u8, x: u8) -> bool
 }
 
 // A field that stands at a place only if the step's tag asks for it; else nothing stands there.
-fn expect_if(s: &[u8], asked: bool, at: usize, tag: u8, l: Length) -> Expected
-    ensures { λ r. ⌜ r ≡ expectedOf (field-if asked tag (allowedBy l) (now (s .entry)) at) ⌝ }
+fn expect_if(s: &[u8], asked: bool, c: Cursor, tag: u8, l: Length) -> Expected
+    ensures { λ r. ⌜ r ≡ expectedOf (field-if asked tag (allowedBy l) (now (s .entry)) (c .at)) ⌝ }
 {
     if asked {
-        return reader::expect(s, at, tag, l);
+        return reader::expect(s, c, tag, l);
     }
+    let start = c.at;
     Expected::Found {
-        extent: Extent { start: at, size: 0 },
-        next: Cursor { at },
+        extent: Extent { start, size: 0 },
+        next: c,
     }
 }
 
-pub fn read_fields(proof: &[u8], at: usize) -> FieldsRead
-    requires { ⌜ at < length (now proof) ⌝ }
-    ensures { λ r. ⌜ r ≡ fieldsOf (read-fields (now (proof .entry)) at) ⌝ }
+// Each field is read by the cursor that the one before it handed back.
+pub fn read_fields(proof: &[u8], first: Cursor) -> FieldsRead
+    ensures { λ r. ⌜ r ≡ fieldsOf (read-fields (now (proof .entry)) (first .at)) ⌝ }
 {
-    let tag = proof[at];
+    let tag = reader::tag_at(proof, first);
     if !within(0x11, 0x14, tag) {
-        return FieldsRead::Bad(at);
+        return FieldsRead::Bad(first.at);
     }
-    let Expected::Found { extent: c, next } = reader::expect(proof, at, tag, Length::Even) else {
-        return FieldsRead::Bad(at);
+    let Expected::Found { extent: c, next } = reader::expect(proof, first, tag, Length::Even) else {
+        return FieldsRead::Bad(first.at);
     };
-    let past_c = next.at;
+    let past_c = next;
     let witness = expect_if(proof, within(0x12, 0x13, tag), past_c, 0x21, Length::Fours);
     let Expected::Found { extent: w, next } = witness else {
-        return FieldsRead::Bad(past_c);
+        return FieldsRead::Bad(past_c.at);
     };
-    let past_w = next.at;
+    let past_w = next;
     let modulo = expect_if(proof, tag == 0x13, past_w, 0x22, Length::Even);
     let Expected::Found { extent: n, next } = modulo else {
-        return FieldsRead::Bad(past_w);
+        return FieldsRead::Bad(past_w.at);
     };
     if tag == 0x14 {
-        return FieldsRead::Whole(Fields {
-            clause: n,
-            witness: n,
-            numbers: c,
+        return FieldsRead::Whole {
+            fields: Fields {
+                clause: n,
+                witness: n,
+                numbers: c,
+                next: past_c.at,
+            },
             next: past_c,
-        });
+        };
     }
-    FieldsRead::Whole(Fields {
-        clause: c,
-        witness: w,
-        numbers: n,
-        next: next.at,
-    })
+    FieldsRead::Whole {
+        fields: Fields {
+            clause: c,
+            witness: w,
+            numbers: n,
+            next: next.at,
+        },
+        next,
+    }
 }
 
 // Whether all of a field is in order; or the place of the first two bytes that are not.

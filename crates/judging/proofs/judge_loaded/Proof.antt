@@ -2,7 +2,7 @@
 -- Assumes nothing.
 use Prim.Native.Nat.{_<_}
 use borrow.Author.Needs.{needs}
-use mathlib.Core.Path.{refl}
+use mathlib.Core.Path.{refl, sym, _∙_}
 use native.Mathlib.Omega.{arith}
 use Rattle.paper.specs.declared.Reason.the-variants.{NumberNotLive}
 use Rattle.steps.proofs.Fields.{lie}
@@ -28,13 +28,13 @@ returns c =
 enum-told : tie.Need-enum-told
 enum-told c = search needs
 
-shared-slice-read-tag : tie.Need-shared-slice-read-tag
-shared-slice-read-tag c = search needs
+tag-at-requires : tie.Need-tag-at-requires
+tag-at-requires c κs = search needs
 
 returns-2 : tie.Need-returns-2
 returns-2 c =
     let q = c .before .before .before .before .check-numbers .ensures (c .before .before .before .before .before .before .before .before .before .before .args .formula .now) in
-    (delete-passes (c .before .before .before .before .before .before .before .before .before .before .pre) (checked-fine NumberNotLive _ _ q (c .before .before .enum-told .given .1)) (c .if1 .taken), refl)
+    (delete-passes (c .before .before .before .before .before .before .before .before .before .before .pre) (checked-fine NumberNotLive _ _ q (c .before .before .enum-told .given .1)) (sym (c .before .tag-at .ensures) ∙ c .if1 .taken), refl)
 
 stopped-requires-2 : tie.Need-stopped-requires-2
 stopped-requires-2 c κs = search needs
@@ -42,7 +42,7 @@ stopped-requires-2 c κs = search needs
 returns-3 : tie.Need-returns-3
 returns-3 c =
     let q = c .before .before .before .before .before .before .check-numbers .ensures (c .before .before .before .before .before .before .before .before .before .before .before .before .args .formula .now) in
-    (rw (c .stopped2 .ensures) (number-stops (c .before .before .before .before .before .before .before .before .before .before .before .before .pre) (checked-fine NumberNotLive _ _ q (c .before .before .before .before .enum-told .given .1)) (c .before .before .if1 .left) (c .before .if2 .taken)), refl)
+    (rw (c .stopped2 .ensures) (number-stops (c .before .before .before .before .before .before .before .before .before .before .before .before .pre) (checked-fine NumberNotLive _ _ q (c .before .before .before .before .enum-told .given .1)) (λ e. c .before .before .if1 .left (c .before .before .before .tag-at .ensures ∙ e)) (c .before .if2 .taken)), refl)
 
 sub-used : tie.Need-sub-used
 sub-used c = search needs
@@ -63,7 +63,7 @@ judge-new-requires : tie.Need-judge-new-requires
 judge-new-requires c κs =
     let q = c .before .before .before .before .before .before .before .before .before .before .check-numbers .ensures (c .before .before .before .before .before .before .before .before .before .before .before .before .before .before .before .before .args .formula .now) in
     let h : c .before .before .before .before .before .before .before .before .before .before .before .before .before .before .before .before .args .next < 16384 = omega arith in
-    new (c .before .before .before .before .before .before .before .before .before .before .before .before .before .before .before .before .pre) (checked-fine NumberNotLive _ _ q (c .before .before .before .before .before .before .before .before .enum-told .given .1)) (c .before .before .before .before .before .before .if1 .left) h _ _ (c .before .before .part .ensures) (c .before .part2 .ensures)
+    new (c .before .before .before .before .before .before .before .before .before .before .before .before .before .before .before .before .pre) (checked-fine NumberNotLive _ _ q (c .before .before .before .before .before .before .before .before .enum-told .given .1)) _ (c .before .before .before .before .before .before .before .tag-at .ensures) (c .before .before .before .before .before .before .if1 .left) h _ _ (c .before .before .part .ensures) (c .before .part2 .ensures)
 
 same-length : tie.Need-same-length
 same-length c = search needs
@@ -72,7 +72,7 @@ returns-4 : tie.Need-returns-4
 returns-4 c =
     let q = c .before .before .before .before .before .before .before .before .before .before .before .before .before .check-numbers .ensures (c .before .before .before .before .before .before .before .before .before .before .before .before .before .before .before .before .before .before .before .args .formula .now) in
     let h : c .before .before .before .before .before .before .before .before .before .before .before .before .before .before .before .before .before .before .before .args .next < 16384 = omega arith in (
-      new-judged (c .before .before .before .before .before .before .before .before .before .before .before .before .before .before .before .before .before .before .before .pre) (checked-fine NumberNotLive _ _ q (c .before .before .before .before .before .before .before .before .before .before .before .enum-told .given .1)) (c .before .before .before .before .before .before .before .before .before .if1 .left) h _ _ (c .before .before .before .before .before .part .ensures) (c .before .before .before .before .part2 .ensures) _ (c .before .before .judge-new .ensures .0),
+      new-judged (c .before .before .before .before .before .before .before .before .before .before .before .before .before .before .before .before .before .before .before .pre) (checked-fine NumberNotLive _ _ q (c .before .before .before .before .before .before .before .before .before .before .before .enum-told .given .1)) _ (c .before .before .before .before .before .before .before .before .before .before .tag-at .ensures) (c .before .before .before .before .before .before .before .before .before .if1 .left) h _ _ (c .before .before .before .before .before .part .ensures) (c .before .before .before .before .part2 .ensures) _ (c .before .before .judge-new .ensures .0),
       c .before .before .judge-new .ensures .1,
     )
 
@@ -85,7 +85,7 @@ judge-loaded-spec =
     stopped-requires
     returns
     enum-told
-    shared-slice-read-tag
+    tag-at-requires
     returns-2
     stopped-requires-2
     returns-3

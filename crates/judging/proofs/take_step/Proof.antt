@@ -8,7 +8,7 @@ use Rattle.paper.specs.declared.Fields.{Fields}
 use Rattle.paper.specs.Files.{File, ok}
 use Rattle.paper.specs.Refusals.{read-fields}
 use Rattle.lookup.specs.Live.{live}
-use Rattle.steps.proofs.Fields.{lie, whole, refused}
+use Rattle.steps.proofs.Fields.{lie, whole, whole-next, refused}
 use Rattle.steps.proofs.Numbers.{removed-length}
 use Rattle.steps.proofs.Step.{numbers-of}
 use Rattle.judging.specs.declared.Judgement.the-variants.{Passed}
@@ -27,13 +27,19 @@ proof d = start d .args .proof .now
 abbrev fields : tie.After-enum-told → Fields
 fields d = d .before .before .before .before .before .before .before .before .x .given .0 .0
 
-read : (d : tie.After-enum-told) → read-fields (proof d) (start d .args .at) ≡ ok (fields d)
+read : (d : tie.After-enum-told) → read-fields (proof d) (start d .args .first .at) ≡ ok (fields d)
 read d =
     let r = d .before .before .before .before .before .before .before .before in
-    whole _ _ _ (sym (r .x .given .1) ∙ r .before .before .read-fields .ensures)
+    whole _ _ _ _ (sym (r .x .given .1) ∙ r .before .before .read-fields .ensures)
+
+-- the cursor that is handed on stands past them
+past : (d : tie.After-enum-told) → d .before .before .before .before .before .before .before .before .x .given .0 .1 .0 ≡ record { at = fields d .next }
+past d =
+    let r = d .before .before .before .before .before .before .before .before in
+    whole-next _ _ _ _ (sym (r .x .given .1) ∙ r .before .before .read-fields .ensures)
 
 passed : (d : tie.After-enum-told) → let a = start d .args in
-    JudgementIs (proof d) (a .vars) (live (a .formula .now) (proof d) (a .words .now)) (a .next) (a .at) (fields d) Passed
+    JudgementIs (proof d) (a .vars) (live (a .formula .now) (proof d) (a .words .now)) (a .next) (a .first .at) (fields d) Passed
 passed d = rw (d .enum-told .given .1) at (d .before .before .before .before .judge-fields .ensures .0)
 
 read-fields-requires : tie.Need-read-fields-requires
@@ -49,7 +55,7 @@ judge-fields-requires : tie.Need-judge-fields-requires
 judge-fields-requires c κs =
     let r = c .before .before .before in
     let s = r .before .before .before .before .before .before .before in
-    record { ready = s .pre; fields = whole _ _ _ (sym (r .x .given .1) ∙ r .before .before .read-fields .ensures) }
+    record { ready = s .pre; fields = whole _ _ _ _ (sym (r .x .given .1) ∙ r .before .before .read-fields .ensures) }
 
 enum-known-reason : tie.Need-enum-known-reason
 enum-known-reason c = search needs
@@ -61,12 +67,12 @@ remove-numbers-requires : tie.Need-remove-numbers-requires
 remove-numbers-requires c κs =
     let d = c .before .before in
     let ready = start d .pre in
-    let i = lie (proof d) (start d .args .at) (fields d) (read d) in
+    let i = lie (proof d) (start d .args .first .at) (fields d) (read d) in
     let used = numbers-used ready (fields d) _ (d .before .before .before .before .judge-fields .ensures .1) (passed d) in
     (i .numbers-within, (i .numbers-even, (omega (arith, ready .words-long), λ n q. omega (arith, used n q, ready .last, ready .words-long))))
 
-shared-slice-read-if1 : tie.Need-shared-slice-read-if1
-shared-slice-read-if1 c = search needs
+tag-at-requires : tie.Need-tag-at-requires
+tag-at-requires c κs = search needs
 
 same-length : tie.Need-same-length
 same-length c = search needs
@@ -78,18 +84,20 @@ returns : tie.Need-returns
 returns c =
     let m = c .before .before .before .before in
     let d = m .before .before .before in
-    deleted-done (start d .pre) (fields d) _ (d .before .before .before .before .judge-fields .ensures .1) (passed d) (read d) _
-    (m .remove-numbers .ensures) (c .if1 .taken)
+    deleted-done (start d .pre) (fields d) _ (d .before .before .before .before .judge-fields .ensures .1) (passed d) (read d) _ (past d) _
+    (m .remove-numbers .ensures) (sym (c .before .tag-at .ensures) ∙ c .if1 .taken)
 
 proof-word-requires : tie.Need-proof-word-requires
-proof-word-requires c κs = search needs
+proof-word-requires c κs =
+    let d = c .before .before .before .before .before .before .before .before in
+    omega (arith, start d .pre .place, start d .pre .proof-short)
 
 enter-requires : tie.Need-enter-requires
 enter-requires c κs =
     let m = c .before .before .before .before .before .before in
     let d = m .before .before .before in
     let ready = start d .pre in
-    let free = number-free ready (fields d) _ (d .before .before .before .before .judge-fields .ensures .1) (passed d) (c .before .before .if1 .left) in
+    let free = number-free ready (fields d) _ (d .before .before .before .before .judge-fields .ensures .1) (passed d) (λ e. c .before .before .if1 .left (c .before .before .before .tag-at .ensures ∙ e)) in
     let long = ap length (m .remove-numbers .ensures) ∙ removed-length (numbers-of (proof d) (fields d)) (start d .args .words .now) in
     omega (arith, long, free, ready .words-long)
 
@@ -128,8 +136,8 @@ returns-4 c =
     let e = c .before .before in
     let m = e .before .before .before .before .before .before .before in
     let d = m .before .before .before in
-    added-done (start d .pre) (fields d) _ (d .before .before .before .before .judge-fields .ensures .1) (passed d) (read d) _
-    (m .remove-numbers .ensures) (e .before .before .before .if1 .left) _ _ (e .enter .ensures) (e .before .proof-word .ensures)
+    added-done (start d .pre) (fields d) _ (d .before .before .before .before .judge-fields .ensures .1) (passed d) (read d) _ (past d) _
+    (m .remove-numbers .ensures) (λ z. e .before .before .before .if1 .left (e .before .before .before .before .tag-at .ensures ∙ z)) _ _ (e .enter .ensures) (e .before .proof-word .ensures)
 
 pub take-step-spec : {M : Type 1} → statement M
 take-step-spec =
@@ -142,7 +150,7 @@ take-step-spec =
     enum-known-reason
     enum-told
     remove-numbers-requires
-    shared-slice-read-if1
+    tag-at-requires
     same-length
     same-length-2
     returns

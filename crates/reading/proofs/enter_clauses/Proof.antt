@@ -12,10 +12,10 @@ use Rattle.reading.proofs.enter_clauses.Statement.{statement}
 use Rattle.reading.proofs.enter_clauses.Tie as tie
 
 abbrev Inv-loop : tie.InvT-loop
-Inv-loop formula vars m first words₀ t₀ at₀ k₀ words t at k = Entering formula vars m first words₀ t₀ words t at k
+Inv-loop formula vars m words₀ t₀ c₀ k₀ words t c k = Entering formula vars m (c₀ .at) words₀ t₀ words t (c .at) k
 
 abbrev μ-loop : tie.MeasureT-loop
-μ-loop formula vars m first words₀ t₀ at₀ k₀ words t at k = m + 1 - k
+μ-loop formula vars m words₀ t₀ c₀ k₀ words t c k = m + 1 - k
 
 loop-holds : tie.Need-loop-holds Inv-loop μ-loop
 loop-holds c =

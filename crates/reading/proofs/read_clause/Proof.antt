@@ -77,7 +77,7 @@ returns-3 c =
 -- the clause is refused where the check's answer says so
 refused : (k : tie.After-check-clause) (s : ClauseCheck) (reason : Reason) (p : ℕ) → k .check-clause .result ≡ s →
     let a = k .before .before .before .before .before .before .before .before .before .args in
-    clauseSaid FormulaCode FormulaTwice (a .at) s ≡ bad reason p → (m n : ℕ) → read-clauses (a .formula .now) (a .vars) (suc m) n (a .at) ≡ bad reason p
+    clauseSaid FormulaCode FormulaTwice (a .c .at) s ≡ bad reason p → (m n : ℕ) → read-clauses (a .formula .now) (a .vars) (suc m) n (a .c .at) ≡ bad reason p
 refused k s reason p same q =
     let e = k .before .before .before in
     let x = e .before .before in

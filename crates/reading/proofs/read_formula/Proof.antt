@@ -30,8 +30,8 @@ enum-known-reason-2 c = search needs
 zero-words-requires : tie.Need-zero-words-requires
 zero-words-requires c κs = search needs
 
-enum-known-at : tie.Need-enum-known-at
-enum-known-at c = search needs
+enum-known-c : tie.Need-enum-known-c
+enum-known-c c = search needs
 
 zero-words-requires-2 : tie.Need-zero-words-requires-2
 zero-words-requires-2 c κs = search needs
@@ -52,7 +52,7 @@ returns c =
     let r = v .before .before in
     let a = r .before .before .before .before in
     let h = head-said-as _ _ _ (r .read-head .ensures) (v .vars .given .1) in
-    let q = clauses-said-as _ _ _ _ _ _ _ _ (k .enter-clauses .ensures .0) (n .at .given .1) in (
+    let q = clauses-said-as _ _ _ _ _ _ _ _ (k .enter-clauses .ensures .0) (n .c .given .1) in (
       record {
         read = bytes-follow _ _ _ _ h _ _ _ q (i .if1 .taken);
         words = zeroed _ _ _ (a .pre .1 .1 .0) (k .enter-clauses .kept .1 .1 .1 .1 .0) (z .zero-words2 .ensures);
@@ -60,8 +60,8 @@ returns c =
       k .enter-clauses .ensures .1,
     )
 
-add-t23 : tie.Need-add-t23
-add-t23 c =
+add-t24 : tie.Need-add-t24
+add-t24 c =
     let n = c .before .before in
     let k = n .before .before .before .before .before .before in
     let v = k .before .before .before .before in
@@ -110,7 +110,7 @@ returns-4 c =
     let v = k .before .before .before .before in
     let r = v .before .before in
     let h = head-said-as _ _ _ (r .read-head .ensures) (v .vars .given .1) in
-    let q = clauses-said-as _ _ _ _ _ _ _ _ (k .enter-clauses .ensures .0) (n .at .given .1) in
+    let q = clauses-said-as _ _ _ _ _ _ _ _ (k .enter-clauses .ensures .0) (n .c .given .1) in
     (formula-taken _ _ _ _ h _ _ _ q (c .if1 .left) (k .enter-clauses .kept .1 .1 .1 .1 .0), k .enter-clauses .ensures .1)
 
 pub read-formula-spec : {M : Type 1} → statement M
@@ -123,12 +123,12 @@ read-formula-spec =
     enter-clauses-requires
     enum-known-reason-2
     zero-words-requires
-    enum-known-at
+    enum-known-c
     zero-words-requires-2
     same-length
     same-length-2
     returns
-    add-t23
+    add-t24
     returns-2
     same-length-3
     same-length-4
