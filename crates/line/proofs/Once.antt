@@ -3,7 +3,7 @@
 use Prim.Native.Nat.{ℕ, _-_}
 use mathlib.Core.Path.{_≡_, sym, ap, ap₂, _∙_}
 use mathlib.Core.List.{List, _++_}
-use lib.ListN.{length, replicate}
+use lib.ListN.{replicate}
 use Rattle.line.specs.declared.Line.{Line}
 use Rattle.line.specs.Put.{Holds}
 use Rattle.line.proofs.line_of.Reads as line-of
