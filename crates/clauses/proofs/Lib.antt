@@ -2,3 +2,4 @@ pub mod Parts
 pub mod Range
 pub mod Marks
 pub mod Check
+pub mod Once

@@ -1,2 +1,3 @@
 pub mod Answers
 pub mod Search
+pub mod Once

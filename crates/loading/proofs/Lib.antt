@@ -3,3 +3,4 @@ pub mod Opposed
 pub mod Trivial
 pub mod Undone
 pub mod Witness
+pub mod Once

@@ -3,3 +3,4 @@ pub mod Pairs
 pub mod Unloading
 pub mod Loading
 pub mod Images
+pub mod Once

@@ -291,7 +291,7 @@ module _ (vars : ℕ) (F : Formula) (valid : Valid vars F) (rising : Rising F) w
   take-step-judged next (DELETE-step ns) ok = deleted
 
 -- 5. A step has one outcome.
-same-lowest : (F : Formula) (C : Clause) (s : Witness) (modulo : List ℕ) (n m : ℕ) → Lowest F C s modulo n → Lowest F C s modulo m → n ≡ m
+pub same-lowest : (F : Formula) (C : Clause) (s : Witness) (modulo : List ℕ) (n m : ℕ) → Lowest F C s modulo n → Lowest F C s modulo m → n ≡ m
 same-lowest F C s modulo n m a b =
     le-antisymm (a .least m (b .clause) (b .live) (b .unnamed) (b .fails)) (b .least n (a .clause) (a .live) (a .unnamed) (a .fails))
 

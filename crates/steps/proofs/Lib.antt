@@ -3,3 +3,4 @@ pub mod Fields
 pub mod Mappings
 pub mod Numbers
 pub mod Step
+pub mod Once

@@ -58,6 +58,15 @@ same-table {t} {u} k f = ext-getD 0 u t (k .long) (λ i h. at (i / 2) i (omega a
             let p : i ≡ v * 2 + 1 = omega arith in
             ap (λ n. getD u n 0) p ∙ k .second v ∙ ap (λ n. getD t n 0) (sym p)
 
+-- and so two tables kept from one differ in nothing if their values do not
+pub kept-once : {t u u′ : List ℕ} → Kept t u → Kept t u′ → ((v : ℕ) → valueAt u v ≡ valueAt u′ v) → u ≡ u′
+kept-once k k′ f =
+    same-table (record {
+      long = k .long ∙ sym (k′ .long);
+      first = λ v. k .first v ∙ sym (k′ .first v);
+      second = λ v. k .second v ∙ sym (k′ .second v);
+    }) f
+
 -- a table with no value set, after any values of the variables 0 to vars: clearing them brings it back
 pub cleared : (vars : ℕ) {t u : List ℕ} → Kept t u → ((v : ℕ) → valueAt t v ≡ 0) → ((v : ℕ) → vars < v → valueAt u v ≡ 0) → clearValues vars u ≡ t
 unfolding clearValues
