@@ -25,7 +25,7 @@ module _ (κs : Lfts 1) (a : ArgsD opened.signature κs) (r : ResD opened.signat
   open-Post = AllOf (open-read .tells)
 
 pub open-once : (κs : _) (a : _) (r r′ : ProofReader) (s s′ : _) → open-Post κs a r s → open-Post κs a r′ s′ → r ≡ r′
-open-once κs a r r′ s s′ p q = ap₂ (λ bytes at. record { bytes = bytes; at = at }) (p .0 ∙ sym (q .0)) (p .1 ∙ sym (q .1))
+open-once κs a r r′ s s′ p q = ap₂ (λ bytes place. record { bytes = bytes; place = place }) (p .0 ∙ sym (q .0)) (p .1 ∙ sym (q .1))
 
 -- the reason is not told, so any will do
 pub expect-once : (κs : _) (a : _) (r r′ : Expected) (s s′ : _) → expect.Post κs a r s → expect.Post κs a r′ s′ → r ≡ r′
