@@ -8,7 +8,7 @@ use crate::rules::{
 };
 use crate::stowage::{moved, Stowage};
 use crate::writer::{self, code, codes, delete};
-use crate::{pigeon, random, stowage};
+use crate::{carried, pigeon, random};
 
 fn line(formula: &[u8], proof: &[u8]) -> String {
     judge(formula, proof, WORDS, BYTES).line()
@@ -156,7 +156,7 @@ fn least_set_word_for_word(literals: Clause, f: &Clauses) -> Clause {
 #[test]
 fn least_sets_agree_and_stowages_hold() {
     let mut random = random::Random(1);
-    let mut tally = stowage::Tally::default();
+    let mut tally = carried::Tally::default();
     for _ in 0..300 {
         let (formula, proof) = random::valid(&mut random);
         let f = live(&formula);
@@ -165,7 +165,21 @@ fn least_sets_agree_and_stowages_hold() {
             let right = least_set_word_for_word(start.clone(), &f);
             assert_eq!(least_set(start, &f), right);
         }
-        stowage::check(&formula, &proof, &mut tally).expect("demand 3");
+        let line = line(&formula, &proof);
+        carried::check(&formula, &proof, &line, &mut tally).expect("demand 3");
     }
     assert!(tally.moved > 0);
+}
+
+#[test]
+fn steps_wrongly_taken_are_seen() {
+    // B, D and E as answered by a checker that takes the step which the paper refuses, and A by one that says refuted.
+    let mut tally = carried::Tally::default();
+    let cases = cases();
+    for (index, wrong) in [(1, "held"), (3, "held"), (4, "held"), (0, "refuted")] {
+        let case = &cases[index];
+        let mut check = |line: &str| carried::check(&case.formula, &case.proof, line, &mut tally);
+        assert_eq!(check(case.line), Ok(()), "{}", case.name);
+        assert!(check(&format!("{wrong} 0 1 0")).is_err(), "{}", case.name);
+    }
 }
