@@ -6,7 +6,7 @@ use crate::rules::{
     complement, image, least_set, passes, rup, rup_step, trivialises, Clause, Clauses, Witness,
     TRUE,
 };
-use crate::stowage::{moved, Stowage};
+use crate::stowage::{all, meets, moved, Stowage};
 use crate::writer::{self, code, codes, delete};
 use crate::{carried, pigeon, random};
 
@@ -132,6 +132,18 @@ fn pigeonholes_are_refuted() {
         assert_eq!(answer, Answer::Refuted(steps.len()), "n = {n}");
         assert_eq!(steps.len() as i32, n * (n - 1));
     }
+}
+
+#[test]
+fn one_bit_of_the_formula_decides() {
+    // samples/twenties.formula: the pigeonhole formula with its last bit turned can be met, and the refutation is refused.
+    let (mut formula, proof) = pigeon::files(4);
+    assert_eq!(line(&formula, &proof), "refuted 0 12 0");
+    *formula.last_mut().expect("a formula has bytes") ^= 1;
+    assert_eq!(line(&formula, &proof), "refused 15 3 25");
+    let mut stowages = all(12);
+    stowages.retain(|stowage| live(&formula).values().all(|c| meets(stowage, c)));
+    assert_eq!(stowages.len(), 2);
 }
 
 /// The least set word for word: each clause, each literal in it, all its fellows.
