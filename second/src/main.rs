@@ -1,5 +1,6 @@
 //! A second checker, written from the paper alone: obvious rather than fast, to compare another checker with.
 
+mod carried;
 mod cases;
 mod damage;
 mod deletions;
@@ -27,8 +28,8 @@ use std::process::ExitCode;
 const USAGE: &str = "second answer FORMULA PROOF
 second cases [OUTDIR]
 second pack stored|systematic|bytes|deletions|pigeons|large OUTDIR
-second pack random SEED COUNT OUTDIR
-second stowages SEED COUNT
+second pack random|valid SEED COUNT OUTDIR
+second stowages FILE.pack FILE.lines
 second counts FILE.lines...
 second pigeon N FORMULA PROOF";
 
@@ -40,15 +41,15 @@ fn main() -> ExitCode {
         ["cases"] => hand_cases(),
         ["cases", folder] => hand_cases().and_then(|()| hand_files(Path::new(folder))),
         ["pack", name, folder] => fixed(name).and_then(|cases| pack(folder, name, &cases)),
-        ["pack", "random", seed, count, folder] => {
-            numbers(seed, count).and_then(|(seed, count)| {
-                let name = format!("random-{seed}");
-                pack(folder, &name, &random::cases(seed, count))
-            })
-        }
-        ["stowages", seed, count] => {
-            numbers(seed, count).and_then(|(seed, count)| stowages(seed, count))
-        }
+        ["pack", name @ ("random" | "valid"), seed, count, folder] => numbers(seed, count)
+            .and_then(|(seed, count)| {
+                let cases = match name {
+                    "random" => random::cases(seed, count),
+                    _ => random::valid_cases(seed, count),
+                };
+                pack(folder, &format!("{name}-{seed}"), &cases)
+            }),
+        ["stowages", pack, lines] => stowages(pack, lines),
         ["counts", ref files @ ..] if !files.is_empty() => counts(files),
         ["pigeon", n, formula, proof] => pigeons(n, formula, proof),
         _ => Err(USAGE.to_string()),
@@ -135,16 +136,27 @@ fn pack(folder: &str, name: &str, cases: &[pack::Case]) -> Done {
     Ok(())
 }
 
-fn stowages(seed: u64, count: usize) -> Done {
-    let mut random = random::Random(seed);
-    let mut tally = stowage::Tally::default();
-    for index in 0..count {
-        let (formula, proof) = random::valid(&mut random);
-        stowage::check(&formula, &proof, &mut tally).map_err(|message| {
+/// Demand 3 over a pack, with the lines that a checker gave for it.
+fn stowages(pack: &str, lines: &str) -> Done {
+    let bytes = std::fs::read(pack).map_err(|error| error.to_string())?;
+    let cases = pack::read(&bytes).ok_or("a pack that is cut short")?;
+    let lines = std::fs::read_to_string(lines).map_err(|error| error.to_string())?;
+    let lines: Vec<&str> = lines.lines().collect();
+    if lines.len() != cases.len() {
+        return Err(format!("{} lines, {} cases", lines.len(), cases.len()));
+    }
+    let mut tally = carried::Tally::default();
+    for (index, (case, line)) in cases.iter().zip(lines).enumerate() {
+        let (formula, proof) = (&case.formula, &case.proof);
+        carried::check(formula, proof, line, &mut tally).map_err(|message| {
             format!("case {index}: {message}\nformula {formula:02x?}\nproof {proof:02x?}")
         })?;
     }
-    println!("cases {} refuted {}", tally.cases, tally.refuted);
+    let (cases, passed) = (tally.cases, tally.passed_over);
+    println!(
+        "cases {cases} passed over {passed} refuted {}",
+        tally.refuted
+    );
     println!("steps taken {:?}", tally.steps);
     println!("steps that moved a stowage {:?}", tally.moving);
     println!("stowages carried {} moved {}", tally.carried, tally.moved);

@@ -48,6 +48,28 @@ pub fn write(folder: &Path, name: &str, cases: &[Case]) -> std::io::Result<()> {
     lines.flush()
 }
 
+/// The first case of a pack, which is cut off it.
+fn first(pack: &mut &[u8]) -> Option<Case> {
+    let mut number = || Some(u32::from_be_bytes(pack.split_off(..4)?.try_into().ok()?));
+    let (words, bytes, n, k) = (number()?, number()?, number()?, number()?);
+    let mut part = |size: u32| Some(pack.split_off(..size as usize)?.to_vec());
+    Some(Case {
+        words,
+        bytes,
+        formula: part(n)?,
+        proof: part(k)?,
+    })
+}
+
+/// The cases of a pack; none of one that is cut short.
+pub fn read(mut pack: &[u8]) -> Option<Vec<Case>> {
+    let mut cases = Vec::new();
+    while !pack.is_empty() {
+        cases.push(first(&mut pack)?);
+    }
+    Some(cases)
+}
+
 /// How often each verdict and each reason comes up: keys "held", "refuted", "refused 1" and so on.
 pub fn counts(lines: &str) -> BTreeMap<String, usize> {
     let mut counts = BTreeMap::new();

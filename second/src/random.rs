@@ -182,6 +182,12 @@ pub fn valid(random: &mut Random) -> (Vec<u8>, Vec<u8>) {
     (formula, proof)
 }
 
+pub fn valid_cases(seed: u64, count: usize) -> Vec<Case> {
+    let mut random = Random(seed);
+    let case = |(formula, proof)| Case::new(formula, proof);
+    (0..count).map(|_| case(valid(&mut random))).collect()
+}
+
 /// Fields with plausible tags and small values, most of them in order and some not.
 fn noise(random: &mut Random, tags: &[u8]) -> Vec<u8> {
     let mut bytes = Vec::new();

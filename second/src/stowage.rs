@@ -1,8 +1,6 @@
-//! Demand 3 by brute force: every stowage that meets the formula is carried through the taken steps.
+//! Stowages, what they meet, and how they move.
 
-use crate::files::Kind;
-use crate::judge::State;
-use crate::rules::{image, Clause, Clauses, Code, Witness, FALSE, TRUE};
+use crate::rules::{image, Clause, Code, Witness, FALSE, TRUE};
 use std::collections::BTreeMap;
 
 /// "A stowage gives each of the variables 1 to V true or false."
@@ -32,56 +30,4 @@ pub fn all(v: u32) -> Vec<Stowage> {
     (0..1u32 << v)
         .map(|bits| (1..=v).map(|variable| bit(bits, variable)).collect())
         .collect()
-}
-
-#[derive(Default)]
-pub struct Tally {
-    pub cases: usize,
-    pub refuted: usize,
-    pub steps: BTreeMap<Kind, usize>,
-    pub carried: usize,
-    pub moved: usize,
-    /// Steps that moved a stowage at all.
-    pub moving: BTreeMap<Kind, usize>,
-}
-
-/// Checks one case with V at most 8; the error says what failed.
-pub fn check(formula: &[u8], proof: &[u8], tally: &mut Tally) -> Result<(), String> {
-    let mut state = State::start(formula).map_err(|f| format!("formula refused {f:?}"))?;
-    if state.v > 8 {
-        return Err("too many variables for brute force".to_string());
-    }
-    let meets_all = |stowage: &Stowage, live: &Clauses| live.values().all(|c| meets(stowage, c));
-    let mut stowages = all(state.v);
-    stowages.retain(|stowage| meets_all(stowage, &state.live));
-    tally.cases += 1;
-    while state.at < proof.len() {
-        // A refused step ends what is promised about the steps before it.
-        let Ok(step) = state.take(proof) else {
-            return Ok(());
-        };
-        *tally.steps.entry(step.kind).or_insert(0) += 1;
-        let moved_before = tally.moved;
-        for stowage in &mut stowages {
-            let witnessed = matches!(step.kind, Kind::Sr | Kind::Wsr);
-            if witnessed && !meets(stowage, &step.clause) {
-                *stowage = moved(stowage, &step.witness);
-                tally.moved += 1;
-            }
-            tally.carried += 1;
-            if !meets_all(stowage, &state.live) {
-                return Err(format!("step {}: {stowage:?} fails", state.taken));
-            }
-        }
-        if tally.moved > moved_before {
-            *tally.moving.entry(step.kind).or_insert(0) += 1;
-        }
-    }
-    if state.empty_clause_live() {
-        tally.refuted += 1;
-        if !stowages.is_empty() {
-            return Err("refuted, yet a stowage meets the formula".to_string());
-        }
-    }
-    Ok(())
 }

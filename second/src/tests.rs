@@ -6,9 +6,9 @@ use crate::rules::{
     complement, image, least_set, passes, rup, rup_step, trivialises, Clause, Clauses, Witness,
     TRUE,
 };
-use crate::stowage::{moved, Stowage};
+use crate::stowage::{all, meets, moved, Stowage};
 use crate::writer::{self, code, codes, delete};
-use crate::{pigeon, random, stowage};
+use crate::{carried, pigeon, random};
 
 fn line(formula: &[u8], proof: &[u8]) -> String {
     judge(formula, proof, WORDS, BYTES).line()
@@ -134,6 +134,18 @@ fn pigeonholes_are_refuted() {
     }
 }
 
+#[test]
+fn one_bit_of_the_formula_decides() {
+    // samples/twenties.formula: the pigeonhole formula with its last bit turned can be met, and the refutation is refused.
+    let (mut formula, proof) = pigeon::files(4);
+    assert_eq!(line(&formula, &proof), "refuted 0 12 0");
+    *formula.last_mut().expect("a formula has bytes") ^= 1;
+    assert_eq!(line(&formula, &proof), "refused 15 3 25");
+    let mut stowages = all(12);
+    stowages.retain(|stowage| live(&formula).values().all(|c| meets(stowage, c)));
+    assert_eq!(stowages.len(), 2);
+}
+
 /// The least set word for word: each clause, each literal in it, all its fellows.
 fn least_set_word_for_word(literals: Clause, f: &Clauses) -> Clause {
     let mut set = literals;
@@ -156,7 +168,7 @@ fn least_set_word_for_word(literals: Clause, f: &Clauses) -> Clause {
 #[test]
 fn least_sets_agree_and_stowages_hold() {
     let mut random = random::Random(1);
-    let mut tally = stowage::Tally::default();
+    let mut tally = carried::Tally::default();
     for _ in 0..300 {
         let (formula, proof) = random::valid(&mut random);
         let f = live(&formula);
@@ -165,7 +177,21 @@ fn least_sets_agree_and_stowages_hold() {
             let right = least_set_word_for_word(start.clone(), &f);
             assert_eq!(least_set(start, &f), right);
         }
-        stowage::check(&formula, &proof, &mut tally).expect("demand 3");
+        let line = line(&formula, &proof);
+        carried::check(&formula, &proof, &line, &mut tally).expect("demand 3");
     }
     assert!(tally.moved > 0);
+}
+
+#[test]
+fn steps_wrongly_taken_are_seen() {
+    // B, D and E as answered by a checker that takes the step which the paper refuses, and A by one that says refuted.
+    let mut tally = carried::Tally::default();
+    let cases = cases();
+    for (index, wrong) in [(1, "held"), (3, "held"), (4, "held"), (0, "refuted")] {
+        let case = &cases[index];
+        let mut check = |line: &str| carried::check(&case.formula, &case.proof, line, &mut tally);
+        assert_eq!(check(case.line), Ok(()), "{}", case.name);
+        assert!(check(&format!("{wrong} 0 1 0")).is_err(), "{}", case.name);
+    }
 }
