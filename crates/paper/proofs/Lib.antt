@@ -10,3 +10,4 @@ pub mod Answering
 pub mod Demand3
 pub mod Reasons
 pub mod Cases
+pub mod Rows
