@@ -11,3 +11,4 @@ pub mod Demand3
 pub mod Reasons
 pub mod Cases
 pub mod Rows
+pub mod Sides
