@@ -12,3 +12,4 @@ pub mod Reasons
 pub mod Cases
 pub mod Rows
 pub mod Sides
+pub mod Lines
