@@ -13,3 +13,4 @@ pub mod Cases
 pub mod Rows
 pub mod Sides
 pub mod Lines
+pub mod Rules
