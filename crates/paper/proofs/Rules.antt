@@ -297,17 +297,17 @@ end-exactly f vars m n at h = (
   λ e. let b = leb-beyond (suc at) (length f) (omega arith) in rw b,
 )
 
-over-limit : (v m : ℕ) → ((leb v 4095 && leb m 16383) ≡ false) ↔ ((4095 < v) ⊎ (16383 < m))
-over-limit v m = (λ e. there (leb v 4095) refl (leb m 16383) refl e, back)
+over-limit : (v m high most : ℕ) → ((leb v high && leb m most) ≡ false) ↔ ((high < v) ⊎ (most < m))
+over-limit v m high most = ((λ e. there (leb v high) refl (leb m most) refl e), back)
   where
-    there : (a : Bool) → leb v 4095 ≡ a → (b : Bool) → leb m 16383 ≡ b → (a && b) ≡ false → (4095 < v) ⊎ (16383 < m)
-    there false p b q e = inl (leb-no v 4095 p)
-    there true p false q e = inr (leb-no m 16383 q)
+    there : (a : Bool) → leb v high ≡ a → (b : Bool) → leb m most ≡ b → (a && b) ≡ false → (high < v) ⊎ (most < m)
+    there false p b q e = inl (leb-no v high p)
+    there true p false q e = inr (leb-no m most q)
     there true p true q e = absurd (true≢false e)
 
-    back : (4095 < v) ⊎ (16383 < m) → (leb v 4095 && leb m 16383) ≡ false
-    back (inl h) = rw (leb-beyond v 4095 h)
-    back (inr h) = and-false (leb v 4095) (leb m 16383) (leb-beyond m 16383 h)
+    back : (high < v) ⊎ (most < m) → (leb v high && leb m most) ≡ false
+    back (inl h) = rw (leb-beyond v high h)
+    back (inr h) = and-false (leb v high) (leb m most) (leb-beyond m most h)
 
 abbrev OfLimits : File → Reason → ℕ → Type 0
 OfLimits f r p = numberOf r ≡ 4 → (4095 < two f 3) ⊎ (16383 < two f 5)
@@ -316,7 +316,7 @@ reads-formula : (f : File) → Reads (λ _. Unit {0}) (OfLimits f) (read-formula
 unfolding read-formula past
 reads-formula f =
     reads-bind Q _ _ _ _ (reads-field Q FormulaField 0x01 four f 0 (λ z. absurd (omega arith))) λ e w.
-    reads-seq Q _ _ _ _ (reads-need Q (leb (two f 3) 4095 && leb (two f 5) 16383) OverLimit 0 (λ t _. (over-limit (two f 3) (two f 5)) .0 t)) λ _ _.
+    reads-seq Q _ _ _ _ (reads-need Q (leb (two f 3) 4095 && leb (two f 5) 16383) OverLimit 0 (λ t _. (over-limit (two f 3) (two f 5) 4095 16383) .0 t)) λ _ _.
     reads-bind Q _ _ _ _ (of-clauses (read-clauses f (two f 3) (two f 5) 1 (past e)) (reads-clauses f (two f 3) (two f 5) 1 (past e) (w .ends))) λ F _.
     reads-seq Q _ _ _ _ (reads-need Q (leb (length f) (F .1)) FormulaEnd (F .1) (λ _ z. absurd (omega arith))) λ _ _. tt
   where
@@ -340,7 +340,7 @@ module _ (f : File) (e : Extent) (head : field FormulaField 0x01 four f 0 ≡ ok
   pub limits-exactly : (read-formula f ≡ bad OverLimit 0) ↔ ((4095 < two f 3) ⊎ (16383 < two f 5))
   unfolding read-formula need _>>=_ _>>_
   limits-exactly =
-      ((λ h. subst (Reads (λ _. Unit {0}) (OfLimits f)) h (reads-formula f) refl), λ h. rw (head, _>>=_, (over-limit (two f 3) (two f 5)) .1 h))
+      ((λ h. subst (Reads (λ _. Unit {0}) (OfLimits f)) h (reads-formula f) refl), λ h. rw (head, _>>=_, (over-limit (two f 3) (two f 5) 4095 16383) .1 h))
 
   -- "bytes follow clause m": 7 at the first such byte; a file that ends there is read
   module _ (low : two f 3 ≤ 4095) (few : two f 5 ≤ 16383) (F : Formula) (at : ℕ) (clauses : read-clauses f (two f 3) (two f 5) 1 7 ≡ ok (F, at)) where
