@@ -7,10 +7,11 @@ use mathlib.Core.Bool.{Bool, true, false}
 use mathlib.Core.List.{List, [], _∷_, _++_, map, List·Memᴰ·append-cases, List·Memᴰ·eq-of-singleton}
 use native.Mathlib.Omega.{arith}
 use lib.Dec.{ltb}
+use Rattle.paper.specs.declared.Reason.{Reason}
 use Rattle.paper.specs.declared.Reason.the-variants.{WorkShort, FileLong, FormulaField, OverLimit, FormulaCode, FormulaTwice, FormulaEnd, ProofField, ProofCode, ProofTwice, NumberNotLive, NumbersUsedUp, NotRup, NotTrivialised, NotPassing, ClauseLong}
 use Rattle.paper.specs.declared.Verdict.the-variants.{Refuted, Held}
 use Rattle.paper.specs.Atoms.{_∈_}
-use Rattle.paper.specs.Answers.{numberOf, refused}
+use Rattle.paper.specs.Answers.{numberOf, numbersOf, refused}
 use Rattle.paper.specs.Line.{digits, word, line}
 use Rattle.paper.proofs.Lists.{leb-yes, leb-no}
 
@@ -101,3 +102,9 @@ pub reasons-numbered : map numberOf (WorkShort ∷ FileLong ∷ FormulaField ∷
     ∷ ProofTwice ∷ NumberNotLive ∷ NumbersUsedUp ∷ NotRup ∷ NotTrivialised ∷ NotPassing ∷ ClauseLong ∷ [])
     ≡ 1 ∷ 2 ∷ 3 ∷ 4 ∷ 5 ∷ 6 ∷ 7 ∷ 8 ∷ 9 ∷ 10 ∷ 11 ∷ 12 ∷ 13 ∷ 14 ∷ 15 ∷ 16 ∷ []
 reasons-numbered = refl
+
+-- the verdict as 0 refuted, 1 held, 2 refused, with the reason's number
+pub verdicts-numbered : (n p : ℕ) (r : Reason) → (numbersOf (Refuted n) ≡ record { verdict = 0; reason = 0; step = n; place = 0 })
+    × (numbersOf (Held n) ≡ record { verdict = 1; reason = 0; step = n; place = 0 })
+    × (numbersOf (refused r n p) ≡ record { verdict = 2; reason = numberOf r; step = n; place = p })
+verdicts-numbered n p r = (refl, refl, refl)

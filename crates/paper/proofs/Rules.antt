@@ -19,9 +19,9 @@ use Rattle.paper.specs.Files.{File, Read, ok, bad, _>>=_, _>>_, need, tw
 use Rattle.paper.specs.Conditions.{is-in}
 use Rattle.paper.specs.Refusals.{each, no-two, between, check-clause, read-clauses, read-formula, check-mappings, is-live, check-numbers, to-step}
 use Rattle.paper.specs.Answers.{numberOf, numbersOf, Answer, work-short, file-long, formula-bad, proof-judged}
-use Rattle.paper.specs.Valid.{Distinct, Listed}
+use Rattle.paper.specs.Valid.{Distinct, Codes, Apart, Listed}
 use Rattle.paper.proofs.Lists.{eqb-yes, eqb-same, or-yes, leb-yes, leb-no, leb-within, leb-beyond, is-in-yes, is-in-no}
-use Rattle.paper.proofs.Reading.{Then, each-then, no-two-then, check-mappings-then, check-numbers-then, Ranged}
+use Rattle.paper.proofs.Reading.{Then, then-seq, then-map, need-then, each-then, no-two-then, between-yes, check-mappings-then, check-numbers-then, Ranged}
 use Rattle.paper.proofs.Reasons.{OfFormula, formula-reasons, OfSteps, steps-reasons}
 
 -- what holds of what is read, and of the reason and place where it is not
@@ -154,7 +154,6 @@ module _ (r : Reason) (u : ℕ) where
   pub no-two-place : (p : ℕ) (xs : List ℕ) (x : ℕ) (ys : List ℕ) → Distinct xs → x ∈ xs → no-two r [] u p (xs ++ (x ∷ ys)) ≡ bad r (p + u * length xs)
   no-two-place p xs x ys d m = no-two-at [] p xs x ys d (λ l q z. elim z [ ]) (inr m)
 
--- "witness variable outside 1 to V, atom outside 0 to 2V+1": the variable before its atom, a pair before the next
 between-within : (low high x : ℕ) → low ≤ x → x ≤ high → between low high x ≡ true
 unfolding between
 between-within low high x a b = rw (leb-within low x a, leb-within x high b)
@@ -163,11 +162,33 @@ and-false : (a b : Bool) → b ≡ false → (a && b) ≡ false
 and-false true b e = e
 and-false false b e = refl
 
-between-outside : (low high x : ℕ) → (x < low) ⊎ (high < x) → between low high x ≡ false
+pub between-outside : (low high x : ℕ) → (x < low) ⊎ (high < x) → between low high x ≡ false
 unfolding between
 between-outside low high x (inl h) = rw (leb-beyond low x h)
 between-outside low high x (inr h) = and-false (leb low x) (leb x high) (leb-beyond x high h)
 
+-- "code outside 2 to 2V+1", "variable twice in a clause", "more than V literals": a clause is read exactly where it has none of these
+module _ (range twice : Reason) (vars tag : ℕ) (C : Clause) where
+  clause-then : Then (λ _. Codes vars C × Apart C × (length C ≤ vars)) (check-clause range twice vars tag C)
+  unfolding check-clause
+  clause-then =
+      then-seq _ _ _ _ (each-then range (between 2 (2 * vars + 1)) 2 (tag + 3) C) λ _ a.
+      then-seq _ _ _ _ (no-two-then twice 2 (tag + 3) (map (λ l. l / 2) C)) λ _ b.
+      then-map (λ _. leb (length C) vars ≡ true) _ (need (leb (length C) vars) ClauseLong tag)
+      (λ _ h. ((λ l m. between-yes 2 (2 * vars + 1) l (a l m)), b, leb-yes (length C) vars h)) (need-then (leb (length C) vars) ClauseLong tag)
+
+  pub clause-exactly : (check-clause range twice vars tag C ≡ ok tt) ↔ (Codes vars C × Apart C × (length C ≤ vars))
+  unfolding check-clause need _>>_
+  clause-exactly = (
+    (λ h. subst (Then (λ _. Codes vars C × Apart C × (length C ≤ vars))) h clause-then),
+    λ k. rw (
+      (each-exactly range (between 2 (2 * vars + 1)) 2 (tag + 3) C) .1 (λ l m. let h = k .0 l m in between-within 2 (2 * vars + 1) l (h .0) (h .1)),
+      (no-two-exactly twice 2 (tag + 3) (map (λ l. l / 2) C)) .1 (k .1),
+      leb-within (length C) vars (k .2),
+    ),
+  )
+
+-- "witness variable outside 1 to V, atom outside 0 to 2V+1": the variable before its atom, a pair before the next
 module _ (vars : ℕ) where
   -- the pairs xs in range: what comes after them is read next
   mappings-after : (p : ℕ) (xs ys : Witness) → Ranged vars xs → check-mappings vars p (xs ++ ys) ≡ check-mappings vars (p + 4 * length xs) ys
