@@ -9,17 +9,16 @@ use native.Mathlib.Omega.{arith}
 use lib.Dec.{eqb, leb, ltb}
 use lib.ListN.{length, getD}
 use Rattle.paper.specs.declared.Reason.{Reason}
-use Rattle.paper.specs.declared.Reason.the-variants.{WorkShort, FileLong, FormulaField, FormulaCode, FormulaTwice, ProofField, ProofCode, ProofTwice, NumbersUsedUp, NotTrivialised}
+use Rattle.paper.specs.declared.Reason.the-variants.{WorkShort, FileLong, FormulaField, FormulaCode, FormulaTwice, ProofCode, ProofTwice, NumbersUsedUp, NotTrivialised}
 use Rattle.paper.specs.declared.Extent.{Extent}
 use Rattle.paper.specs.declared.Fields.{Fields}
 use Rattle.paper.specs.declared.Verdict.{Verdict}
 use Rattle.paper.specs.Atoms.{Clause, Formula, Witness}
-use Rattle.paper.specs.Files.{File, Read, ok, bad, _>>=_, _>>_, need, two, payload, past, field, four, even, fours, codes, mappings, SR-step}
+use Rattle.paper.specs.Files.{File, Read, ok, bad, _>>=_, _>>_, need, two, payload, field, four, even, codes, mappings, SR-step}
 use Rattle.paper.specs.Conditions.{Trivialises}
-use Rattle.paper.specs.Refusals.{each, no-two, between, check-clause, read-clauses, read-formula, field-if, read-fields, check-mappings, check-numbers, to-step, read-step}
+use Rattle.paper.specs.Refusals.{each, no-two, between, check-clause, read-clauses, read-formula, read-fields, check-mappings, check-numbers, to-step, read-step}
 use Rattle.paper.specs.Answers.{refused, Judged, stops, not-trivialised, sr-lowest, Steps, Within, Answer, work-short, file-long, formula-bad, proof-judged}
 use Rattle.paper.proofs.Lists.{eqb-same, eqb-other, leb-within, leb-beyond}
-use Rattle.paper.proofs.Rules.{between-outside}
 use Rattle.paper.proofs.Answering.{answer-once}
 
 -- "the clause 9, 10, 16": a code out of range is refused first, whatever else is wrong with the clause
@@ -27,29 +26,6 @@ pub range-first : (range twice : Reason) (vars tag : ℕ) (C : Clause) (r : Reas
     → check-clause range twice vars tag C ≡ bad r p
 unfolding check-clause _>>_
 range-first range twice vars tag C r p e = rw (e, _>>_)
-
--- "8 over all its fields": the step's own field, then a WITNESS after that of SR and WSR, then a MODULO after the WITNESS of WSR; what is
--- missing is refused where it should stand (`field-place`).
-module _ (f : File) (at : ℕ) where
-  pub tag-first : (getD f at 0 < 0x11) ⊎ (0x14 < getD f at 0) → read-fields f at ≡ bad ProofField at
-  unfolding read-fields need _>>_
-  tag-first h = rw (between-outside 0x11 0x14 (getD f at 0) h)
-
-  module _ (r : Reason) (p : ℕ) (c : Extent) where
-    pub sr-witness : getD f at 0 ≡ 0x12 → field ProofField 0x12 even f at ≡ ok c → field ProofField 0x21 fours f (past c) ≡ bad r p
-        → read-fields f at ≡ bad r p
-    unfolding read-fields field-if between need _>>=_ _>>_
-    sr-witness t a b = rw (t, a, _>>=_, b)
-
-    pub wsr-witness : getD f at 0 ≡ 0x13 → field ProofField 0x13 even f at ≡ ok c → field ProofField 0x21 fours f (past c) ≡ bad r p
-        → read-fields f at ≡ bad r p
-    unfolding read-fields field-if between need _>>=_ _>>_
-    wsr-witness t a b = rw (t, a, _>>=_, b)
-
-    pub wsr-modulo : (w : Extent) → getD f at 0 ≡ 0x13 → field ProofField 0x13 even f at ≡ ok c → field ProofField 0x21 fours f (past c) ≡ ok w
-        → field ProofField 0x22 even f (past w) ≡ bad r p → read-fields f at ≡ bad r p
-    unfolding read-fields field-if between need _>>=_ _>>_
-    wsr-modulo w t a b d = rw (t, a, _>>=_, b, d)
 
 -- The checks of a step whose fields are read: its clause; its witness's variables and atoms; a variable mapped twice; its numbers.
 module _ (f : File) (vars at : ℕ) (x : Fields) where

@@ -10,14 +10,14 @@ use native.Mathlib.Omega.{arith}
 use lib.Dec.{eqb, leb, ltb}
 use lib.ListN.{length, getD}
 use Rattle.paper.specs.declared.Reason.{Reason}
-use Rattle.paper.specs.declared.Reason.the-variants.{FormulaField, OverLimit, FormulaCode, FormulaTwice, FormulaEnd, ProofCode, NumberNotLive, ClauseLong}
+use Rattle.paper.specs.declared.Reason.the-variants.{FormulaField, OverLimit, FormulaCode, FormulaTwice, FormulaEnd, ProofField, ProofCode, NumberNotLive, ClauseLong}
 use Rattle.paper.specs.declared.Extent.{Extent}
 use Rattle.paper.specs.declared.Verdict.{Verdict}
 use Rattle.paper.specs.declared.Verdict.the-variants.{Refuted, Held, Refused}
 use Rattle.paper.specs.Atoms.{_∈_, Clause, Formula, Live, Witness}
-use Rattle.paper.specs.Files.{File, Read, ok, bad, _>>=_, _>>_, need, two, payload, past, field, four, even, codes, RUP-step, SR-step, WSR-step, DELETE-step}
+use Rattle.paper.specs.Files.{File, Read, ok, bad, _>>=_, _>>_, need, two, payload, past, field, four, even, fours, codes, RUP-step, SR-step, WSR-step, DELETE-step}
 use Rattle.paper.specs.Conditions.{is-in}
-use Rattle.paper.specs.Refusals.{each, no-two, between, check-clause, read-clauses, read-formula, check-mappings, is-live, check-numbers, to-step}
+use Rattle.paper.specs.Refusals.{each, no-two, between, check-clause, read-clauses, read-formula, field-if, read-fields, check-mappings, is-live, check-numbers, to-step}
 use Rattle.paper.specs.Answers.{numberOf, numbersOf, Answer, work-short, file-long, formula-bad, proof-judged}
 use Rattle.paper.specs.Valid.{Distinct, Codes, Apart, Listed}
 use Rattle.paper.proofs.Lists.{eqb-yes, eqb-same, or-yes, leb-yes, leb-no, leb-within, leb-beyond, is-in-yes, is-in-no}
@@ -162,7 +162,7 @@ and-false : (a b : Bool) → b ≡ false → (a && b) ≡ false
 and-false true b e = e
 and-false false b e = refl
 
-pub between-outside : (low high x : ℕ) → (x < low) ⊎ (high < x) → between low high x ≡ false
+between-outside : (low high x : ℕ) → (x < low) ⊎ (high < x) → between low high x ≡ false
 unfolding between
 between-outside low high x (inl h) = rw (leb-beyond low x h)
 between-outside low high x (inr h) = and-false (leb low x) (leb x high) (leb-beyond x high h)
@@ -372,6 +372,29 @@ module _ (f : File) (e : Extent) (head : field FormulaField 0x01 four f 0 ≡ ok
     pub formula-whole : at ≡ length f → read-formula f ≡ ok (two f 3, F, suc (two f 5))
     unfolding read-formula need _>>=_ _>>_
     formula-whole h = rw (head, _>>=_, leb-within (two f 3) 4095 low, leb-within (two f 5) 16383 few, head-past .1, clauses, leb-within (length f) at (omega arith))
+
+-- "8 over all its fields": the step's own field, then a WITNESS after that of SR and WSR, then a MODULO after the WITNESS of WSR; what is
+-- missing is refused where it should stand (`Order.field-place`).
+module _ (f : File) (at : ℕ) where
+  pub tag-first : (getD f at 0 < 0x11) ⊎ (0x14 < getD f at 0) → read-fields f at ≡ bad ProofField at
+  unfolding read-fields need _>>_
+  tag-first h = rw (between-outside 0x11 0x14 (getD f at 0) h)
+
+  module _ (r : Reason) (p : ℕ) (c : Extent) where
+    pub sr-witness : getD f at 0 ≡ 0x12 → field ProofField 0x12 even f at ≡ ok c → field ProofField 0x21 fours f (past c) ≡ bad r p
+        → read-fields f at ≡ bad r p
+    unfolding read-fields field-if between need _>>=_ _>>_
+    sr-witness t a b = rw (t, a, _>>=_, b)
+
+    pub wsr-witness : getD f at 0 ≡ 0x13 → field ProofField 0x13 even f at ≡ ok c → field ProofField 0x21 fours f (past c) ≡ bad r p
+        → read-fields f at ≡ bad r p
+    unfolding read-fields field-if between need _>>=_ _>>_
+    wsr-witness t a b = rw (t, a, _>>=_, b)
+
+    pub wsr-modulo : (w : Extent) → getD f at 0 ≡ 0x13 → field ProofField 0x13 even f at ≡ ok c → field ProofField 0x21 fours f (past c) ≡ ok w
+        → field ProofField 0x22 even f (past w) ≡ bad r p → read-fields f at ≡ bad r p
+    unfolding read-fields field-if between need _>>=_ _>>_
+    wsr-modulo w t a b d = rw (t, a, _>>=_, b, d)
 
 -- "0x11 RUP step, 0x12 SR step, 0x13 WSR step, 0x14 DELETE step"
 pub steps-by-tag : (C : Clause) (s : Witness) (ns : List ℕ) → (to-step 0x11 C s ns ≡ RUP-step C) × (to-step 0x12 C s ns ≡ SR-step C s)
