@@ -3,7 +3,7 @@
 -- Assumes nothing.
 use mathlib.Core.Path.{_≡_, refl}
 use mathlib.Core.List.{List, [], _∷_, _++_, map}
-use Rattle.paper.specs.declared.Reason.the-variants.{FormulaField, OverLimit, FormulaCode, FormulaEnd, ProofField, ProofCode, ProofTwice, NumberNotLive, NotPassing}
+use Rattle.paper.specs.declared.Reason.the-variants.{FormulaField, OverLimit, FormulaCode, FormulaEnd, ProofField, ProofCode, ProofTwice, NumberNotLive, NotRup, NotPassing}
 use Rattle.paper.specs.declared.Verdict.the-variants.{Refuted, Held}
 use Rattle.paper.specs.Atoms.{_∈_}
 use Rattle.paper.specs.Answers.{refused, Answer}
@@ -35,9 +35,13 @@ rows =
     ∷ case (0x01 ∷ 0 ∷ 4 ∷ 0 ∷ 2 ∷ 0 ∷ 1 ∷ 0x02 ∷ 0 ∷ 4 ∷ 0 ∷ 5 ∷ 0 ∷ 1 ∷ []) [] (refused FormulaCode 0 12)
     -- 5: code 2V+2, before 6
     ∷ case (0x01 ∷ 0 ∷ 4 ∷ 0 ∷ 2 ∷ 0 ∷ 1 ∷ 0x02 ∷ 0 ∷ 6 ∷ 0 ∷ 2 ∷ 0 ∷ 2 ∷ 0 ∷ 6 ∷ []) [] (refused FormulaCode 0 14)
+    -- 5 of clause 1, before clause 2, which is damaged
+    ∷ case (0x01 ∷ 0 ∷ 4 ∷ 0 ∷ 2 ∷ 0 ∷ 2 ∷ 0x02 ∷ 0 ∷ 2 ∷ 0 ∷ 0 ∷ 0x11 ∷ 0 ∷ 0 ∷ []) [] (refused FormulaCode 0 10)
     -- 7: a byte after clause m
     ∷ case (0x01 ∷ 0 ∷ 4 ∷ 0 ∷ 2 ∷ 0 ∷ 1 ∷ 0x02 ∷ 0 ∷ 4 ∷ 0 ∷ 3 ∷ 0 ∷ 5 ∷ 0x02 ∷ []) [] (refused FormulaEnd 0 14)
-    -- The steps. 8: a tag below and one above those of steps
+    -- The steps. 13 of step 1, before step 2, which is damaged
+    ∷ case F1 (0x11 ∷ 0 ∷ 2 ∷ 0 ∷ 3 ∷ 0x15 ∷ 0 ∷ 0 ∷ []) (refused NotRup 1 0)
+    -- 8: a tag below and one above those of steps
     ∷ case F1 (0x10 ∷ 0 ∷ 0 ∷ []) (refused ProofField 1 0)
     ∷ case F1 (0x11 ∷ 0 ∷ 4 ∷ 0 ∷ 3 ∷ 0 ∷ 5 ∷ 0x15 ∷ 0 ∷ 0 ∷ []) (refused ProofField 2 7)
     -- 8: a step of odd length, and one cut short
