@@ -39,7 +39,7 @@ digits-say (suc k) n h = go (digits-say k (n / 10)) (ltb n 10) refl
         said-append 0 (digits k (n / 10)) ((48 + n % 10) ∷ [])
         ∙ ap (λ (m : ℕ). m * 10 + (48 + n % 10 - 48)) q ∙ omega arith
 
--- "a number of 64 bits has at most 20 digits"
+-- a number of 64 bits has at most 20 digits
 pub number-said : (n : ℕ) → n < 2 ^ 64 → said 0 (digits 20 n) ≡ n
 number-said n h = digits-say 20 n (omega arith)
 

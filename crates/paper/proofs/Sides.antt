@@ -109,7 +109,7 @@ module _ (s : Witness) (I : Stowage) (v : ℕ) (h : 1 ≤ v) where
   unfolding moved
   moved-unlisted out = ap (value I) (look-unlisted s v h out) ∙ (value-variable I v h) .0
 
--- moved "by the witness at each SR or WSR step whose new clause fails", and left alone otherwise
+-- moved by the witness at an SR or WSR step whose new clause fails, and left alone otherwise
 module _ (I : Stowage) (C : Clause) (s : Witness) (modulo : List ℕ) where
   pub stowed-moved : meets I C ≡ false → (stowed (SR-step C s) I ≡ moved s I) × (stowed (WSR-step C s modulo) I ≡ moved s I)
   unfolding stowed carried
@@ -270,7 +270,7 @@ passes-exactly F C s D = (there, back)
     back (inr (inl r)) = opposed (r .1) (r .2)
     back (inr (inr r)) = follows r
 
--- "a step that meets them is always taken": what it asks, what it leaves live, and the next number
+-- A step that meets its condition is always taken: what it asks, and what it leaves live, with the next number.
 abbrev pub Asks : Formula → Step → Type 0
 Asks F (RUP-step C) = RUP F C
 Asks F (SR-step C s) = Trivialises s C × ((n : ℕ) (D : Clause) → Live F n D → Passes F C s D)
