@@ -19,30 +19,30 @@ use Rattle.paper.proofs.Judging.{some, trivialises?, rup?, passes?, fai
 use Rattle.paper.proofs.Answering.{empty?, at-end, on-read, on-outcome, steps, on-formula, answer, answer-right}
 
 -- V=2, 1:[-1 -2]
-abbrev F1 : File
+abbrev pub F1 : File
 F1 = 0x01 ∷ 0 ∷ 4 ∷ 0 ∷ 2 ∷ 0 ∷ 1 ∷ 0x02 ∷ 0 ∷ 4 ∷ 0 ∷ 3 ∷ 0 ∷ 5 ∷ []
 
 -- V=2, 1:[-1 2]
-abbrev F2 : File
+abbrev pub F2 : File
 F2 = 0x01 ∷ 0 ∷ 4 ∷ 0 ∷ 2 ∷ 0 ∷ 1 ∷ 0x02 ∷ 0 ∷ 4 ∷ 0 ∷ 3 ∷ 0 ∷ 4 ∷ []
 
 -- V=3, 1:[-1 2], 2:[2 3], 3:[2 -3]
-abbrev F3 : File
+abbrev pub F3 : File
 F3 = 0x01 ∷ 0 ∷ 4 ∷ 0 ∷ 3 ∷ 0 ∷ 3 ∷ 0x02 ∷ 0 ∷ 4 ∷ 0 ∷ 3 ∷ 0 ∷ 4 ∷ 0x02 ∷ 0 ∷ 4 ∷ 0 ∷ 4 ∷ 0 ∷ 6 ∷ 0x02 ∷ 0 ∷ 4 ∷ 0 ∷ 4 ∷ 0 ∷ 7 ∷ []
 
 -- V=2, 1:[1], 2:[2], 3:[-1 -2]
-abbrev F4 : File
+abbrev pub F4 : File
 F4 = 0x01 ∷ 0 ∷ 4 ∷ 0 ∷ 2 ∷ 0 ∷ 3 ∷ 0x02 ∷ 0 ∷ 2 ∷ 0 ∷ 2 ∷ 0x02 ∷ 0 ∷ 2 ∷ 0 ∷ 4 ∷ 0x02 ∷ 0 ∷ 4 ∷ 0 ∷ 3 ∷ 0 ∷ 5 ∷ []
 
 -- 1 to 2, 2 to 1
-abbrev swap : List ℕ
+abbrev pub swap : List ℕ
 swap = 0x21 ∷ 0 ∷ 8 ∷ 0 ∷ 1 ∷ 0 ∷ 4 ∷ 0 ∷ 2 ∷ 0 ∷ 2 ∷ []
 
 -- 1 to T
-abbrev one-to-T : List ℕ
+abbrev pub one-to-T : List ℕ
 one-to-T = 0x21 ∷ 0 ∷ 4 ∷ 0 ∷ 1 ∷ 0 ∷ 0 ∷ []
 
-abbrev modulo-none : List ℕ
+abbrev pub modulo-none : List ℕ
 modulo-none = 0x22 ∷ 0 ∷ 0 ∷ []
 
 pub record Case : Type 0 where
@@ -50,7 +50,7 @@ pub record Case : Type 0 where
   pub proof : File
   pub says : Verdict
 
-abbrev case : File → File → Verdict → Case
+abbrev pub case : File → File → Verdict → Case
 case f p v = record { formula = f; proof = p; says = v }
 
 abbrev pub cases : List Case
@@ -84,23 +84,31 @@ cases =
     ∷ case (0x01 ∷ 0 ∷ 4 ∷ 0 ∷ 1 ∷ 0 ∷ 1 ∷ 0x02 ∷ 0 ∷ 4 ∷ 0 ∷ 2 ∷ 0 ∷ 3 ∷ []) [] (refused FormulaTwice 0 12)
     ∷ []
 
-computed : map (λ (c : Case). answer 16384 8192 (c .formula) (c .proof)) cases ≡ map (λ (c : Case). c .says) cases
+-- the answer of a case as it is computed, opened all the way down
+unfoldable pub answer-of : Case → Verdict
 unfolding complement _>>=_ _>>_ need two payload past field four even fours codes mappings look image is-in once under without after is-true put not-false visit visits sweep sweeps-to assume blank propagate each no-two between check-clause read-clauses read-formula field-if read-fields check-mappings is-live check-numbers to-step read-step some trivialises? rup? passes? failing take-step empty? at-end on-read on-outcome steps on-formula answer
+answer-of c = answer 16384 8192 (c .formula) (c .proof)
+
+-- Cases that are computed as they say have that answer.
+pub cases-right : (l : List Case) → map answer-of l ≡ map (λ (c : Case). c .says) l
+    → (c : Case) → c ∈ l → Answer 16384 8192 (c .formula) (c .proof) (c .says)
+unfolding answer-of
+cases-right [] e c m = elim m [ ]
+cases-right (x ∷ l) e c (List·Memᴰ·head p) =
+    let q : answer-of x ≡ x .says = cc in
+    let r : answer-of c ≡ c .says = ap answer-of p ∙ q ∙ sym (ap (λ (y : Case). y .says) p) in
+    subst (Answer 16384 8192 (c .formula) (c .proof)) r (answer-right 16384 8192 (c .formula) (c .proof))
+cases-right (x ∷ l) e c (List·Memᴰ·tail p) =
+    let q : map answer-of l ≡ map (λ (c : Case). c .says) l = cc in
+    cases-right l q c p
+
+computed : map answer-of cases ≡ map (λ (c : Case). c .says) cases
+unfolding answer-of
 computed = refl
 
 -- The answer of every case is the paper's.
 pub cases-A-to-M : (c : Case) → c ∈ cases → Answer 16384 8192 (c .formula) (c .proof) (c .says)
-cases-A-to-M c m = subst (Answer 16384 8192 (c .formula) (c .proof)) (each-one cases computed c m) (answer-right 16384 8192 (c .formula) (c .proof))
-  where
-    each-one : (l : List Case) → map (λ (c : Case). answer 16384 8192 (c .formula) (c .proof)) l ≡ map (λ (c : Case). c .says) l
-        → (c : Case) → c ∈ l → answer 16384 8192 (c .formula) (c .proof) ≡ c .says
-    each-one [] e c m = elim m [ ]
-    each-one (x ∷ l) e c (List·Memᴰ·head p) =
-        let q : answer 16384 8192 (x .formula) (x .proof) ≡ x .says = cc in
-        ap (λ (y : Case). answer 16384 8192 (y .formula) (y .proof)) p ∙ q ∙ sym (ap (λ (y : Case). y .says) p)
-    each-one (x ∷ l) e c (List·Memᴰ·tail p) =
-        let q : map (λ (c : Case). answer 16384 8192 (c .formula) (c .proof)) l ≡ map (λ (c : Case). c .says) l = cc in
-        each-one l q c p
+cases-A-to-M = cases-right cases computed
 
 -- "For case A .. the whole output is `held 0 1 0`."
 pub line-of-A : line (Held 1) ≡ 104 ∷ 101 ∷ 108 ∷ 100 ∷ 32 ∷ 48 ∷ 32 ∷ 49 ∷ 32 ∷ 48 ∷ 10 ∷ []

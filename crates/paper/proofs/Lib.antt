@@ -10,3 +10,7 @@ pub mod Answering
 pub mod Demand3
 pub mod Reasons
 pub mod Cases
+pub mod Rows
+pub mod Sides
+pub mod Lines
+pub mod Rules
