@@ -19,20 +19,38 @@ use Rattle.paper.specs.Refusals.{each, no-two, between, check-clause, re
 use Rattle.paper.proofs.Lists.{eqb-yes, eqb-other, and-yes, leb-yes, is-in-no}
 use Rattle.paper.specs.Valid.{Distinct, Codes, Apart, Valid, Rising, Kept, Mapping, Listed, New, Seen}
 
+-- what holds of what is read, and of the reason and place where it is not
+abbrev pub Reads : {A : Type 0} → (A → Type 0) → (Reason → ℕ → Type 0) → Read A → Type 0
+Reads P Q (ok a) = P a
+Reads P Q (bad r p) = Q r p
+
+module _ (Q : Reason → ℕ → Type 0) where
+  pub reads-bind : {A B : Type 0} (P : A → Type 0) (P′ : B → Type 0) (m : Read A) (f : A → Read B) → Reads P Q m → ((a : A) → P a → Reads P′ Q (f a))
+      → Reads P′ Q (m >>= f)
+  unfolding _>>=_
+  reads-bind P P′ (ok a) f h k = k a h
+  reads-bind P P′ (bad r p) f h k = h
+
+  pub reads-seq : {A B : Type 0} (P : A → Type 0) (P′ : B → Type 0) (m : Read A) (n : Read B) → Reads P Q m → ((a : A) → P a → Reads P′ Q n)
+      → Reads P′ Q (m >> n)
+  unfolding _>>_
+  reads-seq P P′ (ok a) n h k = k a h
+  reads-seq P P′ (bad r p) n h k = h
+
+  pub reads-need : (b : Bool) (r : Reason) (p : ℕ) → (b ≡ false → Q r p) → Reads (λ _. b ≡ true) Q (need b r p)
+  unfolding need
+  reads-need true r p h = refl
+  reads-need false r p h = h refl
+
 -- what holds of what is read, where it is read
 abbrev pub Then : {A : Type 0} → (A → Type 0) → Read A → Type 0
-Then P (ok a) = P a
-Then P (bad r p) = Unit {0}
+Then P m = Reads P (λ r p. Unit {0}) m
 
 pub then-bind : {A B : Type 0} (P : A → Type 0) (Q : B → Type 0) (m : Read A) (f : A → Read B) → Then P m → ((a : A) → P a → Then Q (f a)) → Then Q (m >>= f)
-unfolding _>>=_
-then-bind P Q (ok a) f p k = k a p
-then-bind P Q (bad r q) f p k = tt
+then-bind = reads-bind (λ r p. Unit {0})
 
 pub then-seq : {A B : Type 0} (P : A → Type 0) (Q : B → Type 0) (m : Read A) (n : Read B) → Then P m → ((a : A) → P a → Then Q n) → Then Q (m >> n)
-unfolding _>>_
-then-seq P Q (ok a) n p k = k a p
-then-seq P Q (bad r q) n p k = tt
+then-seq = reads-seq (λ r p. Unit {0})
 
 pub anything : {A : Type 0} (m : Read A) → Then (λ _. Unit {0}) m
 anything (ok a) = tt
@@ -43,9 +61,29 @@ then-map P Q (ok a) f p = f a p
 then-map P Q (bad r q) f p = tt
 
 pub need-then : (b : Bool) (r : Reason) (p : ℕ) → Then (λ _. b ≡ true) (need b r p)
-unfolding need
-need-then true r p = refl
-need-then false r p = tt
+need-then b r p = reads-need (λ q at. Unit {0}) b r p (λ e. tt)
+
+-- a list that is refused is refused for the reason asked
+module _ (Q : Reason → ℕ → Type 0) (r : Reason) (q : (p : ℕ) → Q r p) where
+  pub reads-each : (good : ℕ → Bool) (u p : ℕ) (C : List ℕ) → Reads (λ _. Unit {0}) Q (each r good u p C)
+  unfolding each
+  reads-each good u p [] = tt
+  reads-each good u p (x ∷ C) = go (reads-each good u (p + u) C) (good x)
+    where
+      go : Reads (λ _. Unit {0}) Q (each r good u (p + u) C) → (b : Bool)
+          → Reads {A = Unit {0}} (λ _. Unit {0}) Q (elim b [ true ↦ each r good u (p + u) C | false ↦ bad r p ])
+      go more true = more
+      go more false = q p
+
+  pub reads-no-two : (seen : List ℕ) (u p : ℕ) (C : List ℕ) → Reads (λ _. Unit {0}) Q (no-two r seen u p C)
+  unfolding no-two
+  reads-no-two seen u p [] = tt
+  reads-no-two seen u p (x ∷ C) = go (reads-no-two (x ∷ seen) u (p + u) C) (is-in x seen)
+    where
+      go : Reads (λ _. Unit {0}) Q (no-two r (x ∷ seen) u (p + u) C) → (b : Bool)
+          → Reads {A = Unit {0}} (λ _. Unit {0}) Q (elim b [ true ↦ bad r p | false ↦ no-two r (x ∷ seen) u (p + u) C ])
+      go more true = q p
+      go more false = more
 
 pub each-then : (r : Reason) (good : ℕ → Bool) (u p : ℕ) (C : List ℕ) → Then (λ _. (l : ℕ) → l ∈ C → good l ≡ true) (each r good u p C)
 unfolding each

@@ -13,26 +13,21 @@ use Rattle.paper.specs.declared.Reason.the-variants.{FormulaField, OverL
 use Rattle.paper.specs.declared.Verdict.{Verdict}
 use Rattle.paper.specs.declared.Verdict.the-variants.{Refuted, Held, Refused}
 use Rattle.paper.specs.Atoms.{Clause, Formula, Witness}
-use Rattle.paper.specs.Files.{File, Read, ok, bad, _>>=_, _>>_, need, two, payload, past, field, four, even, fours, codes, mappings, Step}
-use Rattle.paper.specs.Conditions.{is-in}
+use Rattle.paper.specs.Files.{File, Read, bad, _>>=_, _>>_, need, two, payload, past, field, four, even, fours, codes, mappings, Step}
 use Rattle.paper.specs.Refusals.{each, no-two, between, check-clause, read-clauses, read-formula, field-if, read-fields, check-mappings, is-live, check-numbers, read-step}
+use Rattle.paper.proofs.Reading.{Reads, reads-bind, reads-seq, reads-each, reads-no-two}
 use Rattle.paper.specs.Answers.{numberOf, numbersOf, stops, Judged, not-rup, not-trivialised, sr-lowest, wsr-lowest, wsr-new, Steps, refuted, held, unread, judged, goes-on, Answer, work-short, file-long, formula-bad, proof-judged}
 
 -- what holds of the reason, where there is one
 abbrev Else : {A : Type 0} → (Reason → Type 0) → Read A → Type 0
-Else P (ok a) = Unit {0}
-Else P (bad r p) = P r
+Else P m = Reads (λ _. Unit {0}) (λ r p. P r) m
 
 module _ (P : Reason → Type 0) where
   else-bind : {A B : Type 0} (m : Read A) (f : A → Read B) → Else P m → ((a : A) → Else P (f a)) → Else P (m >>= f)
-  unfolding _>>=_
-  else-bind (ok a) f p k = k a
-  else-bind (bad r q) f p k = p
+  else-bind m f p k = reads-bind (λ r q. P r) _ _ m f p (λ a _. k a)
 
   else-seq : {A B : Type 0} (m : Read A) (n : Read B) → Else P m → Else P n → Else P (m >> n)
-  unfolding _>>_
-  else-seq (ok a) n p k = k
-  else-seq (bad r q) n p k = p
+  else-seq m n p k = reads-seq (λ r q. P r) _ _ m n p (λ a _. k)
 
   else-need : (b : Bool) (r : Reason) (p : ℕ) → P r → Else P (need b r p)
   unfolding need
@@ -48,23 +43,10 @@ module _ (P : Reason → Type 0) where
       (else-seq _ _ (else-need (leb (at + 3 + two f (at + 1)) (length f)) r at h) tt)))
 
   else-each : (r : Reason) (good : ℕ → Bool) (u p : ℕ) (C : List ℕ) → P r → Else P (each r good u p C)
-  unfolding each
-  else-each r good u p [] h = tt
-  else-each r good u p (x ∷ C) h = go (else-each r good u (p + u) C h) (good x)
-    where
-      go : Else P (each r good u (p + u) C) → (b : Bool) → Else {A = Unit {0}} P (elim b [ true ↦ each r good u (p + u) C | false ↦ bad r p ])
-      go more true = more
-      go more false = h
+  else-each r good u p C h = reads-each (λ q at. P q) r (λ at. h) good u p C
 
   else-no-two : (r : Reason) (seen : List ℕ) (u p : ℕ) (C : List ℕ) → P r → Else P (no-two r seen u p C)
-  unfolding no-two
-  else-no-two r seen u p [] h = tt
-  else-no-two r seen u p (x ∷ C) h = go (else-no-two r (x ∷ seen) u (p + u) C h) (is-in x seen)
-    where
-      go : Else P (no-two r (x ∷ seen) u (p + u) C) → (b : Bool)
-          → Else {A = Unit {0}} P (elim b [ true ↦ bad r p | false ↦ no-two r (x ∷ seen) u (p + u) C ])
-      go more true = h
-      go more false = more
+  else-no-two r seen u p C h = reads-no-two (λ q at. P q) r (λ at. h) seen u p C
 
   else-clause : (range twice : Reason) (vars tag : ℕ) (C : Clause) → P range → P twice → P ClauseLong → Else P (check-clause range twice vars tag C)
   unfolding check-clause

@@ -21,31 +21,8 @@ use Rattle.paper.specs.Refusals.{each, no-two, between, check-clause, re
 use Rattle.paper.specs.Answers.{numberOf, numbersOf, Answer, work-short, file-long, formula-bad, proof-judged}
 use Rattle.paper.specs.Valid.{Distinct, Codes, Apart, Listed}
 use Rattle.paper.proofs.Lists.{eqb-yes, eqb-same, or-yes, leb-yes, leb-no, leb-within, leb-beyond, is-in-yes, is-in-no}
-use Rattle.paper.proofs.Reading.{Then, then-seq, then-map, need-then, each-then, no-two-then, between-yes, check-mappings-then, check-numbers-then, Ranged}
+use Rattle.paper.proofs.Reading.{Reads, reads-bind, reads-seq, reads-need, reads-each, reads-no-two, Then, then-seq, then-map, need-then, each-then, no-two-then, between-yes, check-mappings-then, check-numbers-then, Ranged}
 use Rattle.paper.proofs.Reasons.{OfFormula, formula-reasons, OfSteps, steps-reasons}
-
--- what holds of what is read, and of the reason and place where it is not
-abbrev Reads : {A : Type 0} → (A → Type 0) → (Reason → ℕ → Type 0) → Read A → Type 0
-Reads P Q (ok a) = P a
-Reads P Q (bad r p) = Q r p
-
-module _ (Q : Reason → ℕ → Type 0) where
-  reads-bind : {A B : Type 0} (P : A → Type 0) (P′ : B → Type 0) (m : Read A) (f : A → Read B) → Reads P Q m → ((a : A) → P a → Reads P′ Q (f a))
-      → Reads P′ Q (m >>= f)
-  unfolding _>>=_
-  reads-bind P P′ (ok a) f h k = k a h
-  reads-bind P P′ (bad r p) f h k = h
-
-  reads-seq : {A B : Type 0} (P : A → Type 0) (P′ : B → Type 0) (m : Read A) (n : Read B) → Reads P Q m → ((a : A) → P a → Reads P′ Q n)
-      → Reads P′ Q (m >> n)
-  unfolding _>>_
-  reads-seq P P′ (ok a) n h k = k a h
-  reads-seq P P′ (bad r p) n h k = h
-
-  reads-need : (b : Bool) (r : Reason) (p : ℕ) → (b ≡ false → Q r p) → Reads (λ _. b ≡ true) Q (need b r p)
-  unfolding need
-  reads-need true r p h = refl
-  reads-need false r p h = h refl
 
 -- "A file is a run of fields: one byte tag, two bytes length (high byte first), then that many bytes." A field is read exactly where its
 -- tag, its length and its payload are right; its payload is then the bytes after these three.
@@ -264,27 +241,6 @@ live-exactly n (E ∷ F) = ((λ e. there (live-exactly n F) (or-yes (eqb n (E .0
 -- The formula. What its clauses are refused for: never 4; and 7 at the file's length only.
 abbrev OfClauses : File → Reason → ℕ → Type 0
 OfClauses f r p = (numberOf r ≢ 4) × (numberOf r ≡ 7 → p ≡ length f)
-
-module _ (Q : Reason → ℕ → Type 0) (r : Reason) (q : (p : ℕ) → Q r p) where
-  reads-each : (good : ℕ → Bool) (u p : ℕ) (C : List ℕ) → Reads (λ _. Unit {0}) Q (each r good u p C)
-  unfolding each
-  reads-each good u p [] = tt
-  reads-each good u p (x ∷ C) = go (reads-each good u (p + u) C) (good x)
-    where
-      go : Reads (λ _. Unit {0}) Q (each r good u (p + u) C) → (b : Bool)
-          → Reads {A = Unit {0}} (λ _. Unit {0}) Q (elim b [ true ↦ each r good u (p + u) C | false ↦ bad r p ])
-      go more true = more
-      go more false = q p
-
-  reads-no-two : (seen : List ℕ) (u p : ℕ) (C : List ℕ) → Reads (λ _. Unit {0}) Q (no-two r seen u p C)
-  unfolding no-two
-  reads-no-two seen u p [] = tt
-  reads-no-two seen u p (x ∷ C) = go (reads-no-two (x ∷ seen) u (p + u) C) (is-in x seen)
-    where
-      go : Reads (λ _. Unit {0}) Q (no-two r (x ∷ seen) u (p + u) C) → (b : Bool)
-          → Reads {A = Unit {0}} (λ _. Unit {0}) Q (elim b [ true ↦ bad r p | false ↦ no-two r (x ∷ seen) u (p + u) C ])
-      go more true = q p
-      go more false = more
 
 reads-clause : (f : File) (vars tag : ℕ) (C : Clause)
     → Reads (λ _. leb (length C) vars ≡ true) (OfClauses f) (check-clause FormulaCode FormulaTwice vars tag C)

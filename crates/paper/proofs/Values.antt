@@ -4,14 +4,14 @@ use Prim.Native.Nat.{ℕ, suc, _-_, _%_, _/_, _<_}
 use mathlib.Core.Path.{_≡_, refl, sym, ap, _∙_}
 use mathlib.Core.Logic.{_≢_, _⊎_, inl, inr}
 use mathlib.Core.Bool.{Bool, true, false, true≢false, false≢true}
-use mathlib.Core.List.{List, [], _∷_, List·Memᴰ·head, List·Memᴰ·tail}
+use mathlib.Core.List.{[], _∷_, List·Memᴰ·head, List·Memᴰ·tail}
 use native.Mathlib.Omega.{arith}
 use native.Mathlib.Nat.{suc-inj}
 use native.Mathlib.Decide.{ℕ-discrete, decLt}
 use lib.ListN.{length, getD, set, length-set, List·getD-eq-default}
 use lib.Seq.{getD-set-same, getD-set-other, set-out}
 use Rattle.paper.specs.Atoms.{complement, _∈_, Clause}
-use Rattle.paper.specs.Sweeps.{Values, is-true, put, not-false, State, assume}
+use Rattle.paper.specs.Sweeps.{Values, is-true, put, not-false}
 use Rattle.paper.specs.Valid.{Distinct}
 use Rattle.paper.proofs.Lists.{complement-half, complement-mod, same-half, eqb-yes, eqb-no, eqb-same}
 
