@@ -3,7 +3,7 @@
 -- Assumes nothing.
 use mathlib.Core.Path.{_≡_, refl}
 use mathlib.Core.List.{List, [], _∷_, _++_, map}
-use Rattle.paper.specs.declared.Reason.the-variants.{FormulaField, OverLimit, FormulaCode, FormulaEnd, ProofField, ProofCode, ProofTwice, NumberNotLive, NotRup, NotPassing}
+use Rattle.paper.specs.declared.Reason.the-variants.{FormulaField, OverLimit, FormulaCode, FormulaEnd, ProofField, ProofCode, ProofTwice, NumberNotLive, NotRup, NotTrivialised, NotPassing}
 use Rattle.paper.specs.declared.Verdict.the-variants.{Refuted, Held}
 use Rattle.paper.specs.Atoms.{_∈_}
 use Rattle.paper.specs.Answers.{refused, Answer}
@@ -79,6 +79,8 @@ rows =
     -- V=2, 1:[1 2]; SR [1 -2], 1 to 2: C is sent to complements, and clause 1 to a literal with its complement in C
     ∷ case (0x01 ∷ 0 ∷ 4 ∷ 0 ∷ 2 ∷ 0 ∷ 1 ∷ 0x02 ∷ 0 ∷ 4 ∷ 0 ∷ 2 ∷ 0 ∷ 4 ∷ [])
     (0x12 ∷ 0 ∷ 4 ∷ 0 ∷ 2 ∷ 0 ∷ 5 ∷ 0x21 ∷ 0 ∷ 4 ∷ 0 ∷ 1 ∷ 0 ∷ 4 ∷ []) (Held 1)
+    -- 14 before 15: SR [2], 1 to T, with which clause 1 does not pass either
+    ∷ case F2 ((0x12 ∷ 0 ∷ 2 ∷ 0 ∷ 4 ∷ []) ++ one-to-T) (refused NotTrivialised 1 0)
     -- 15: the lowest of two that don't pass: V=3, 1:[2 3], 2:[-1 2], 3:[-1 3]; SR [1], 1 to T
     ∷ case (0x01 ∷ 0 ∷ 4 ∷ 0 ∷ 3 ∷ 0 ∷ 3 ∷ 0x02 ∷ 0 ∷ 4 ∷ 0 ∷ 4 ∷ 0 ∷ 6 ∷ 0x02 ∷ 0 ∷ 4 ∷ 0 ∷ 3 ∷ 0 ∷ 4 ∷ 0x02 ∷ 0 ∷ 4 ∷ 0 ∷ 3 ∷ 0 ∷ 6 ∷ [])
     ((0x12 ∷ 0 ∷ 2 ∷ 0 ∷ 2 ∷ []) ++ one-to-T) (refused NotPassing 1 2)

@@ -1,7 +1,7 @@
 -- The rules of reading held from both sides: a field, a list, a formula is read exactly where the paper says so, and refused at the place
 -- that it names. A rule changed in the definition and in the code alike would not meet these laws.
 -- Assumes nothing.
-use Prim.Native.Nat.{ℕ, zero, suc, _+_, _*_, _/_, _≤_, _<_}
+use Prim.Native.Nat.{ℕ, zero, suc, _+_, _*_, _%_, _/_, _≤_, _<_}
 use mathlib.Core.Path.{_≡_, refl, sym, ap, _∙_, subst}
 use mathlib.Core.Logic.{_≢_, _⊎_, inl, inr, _↔_}
 use mathlib.Core.Bool.{Bool, true, false, _&&_, _||_, true≢false}
@@ -23,6 +23,15 @@ use Rattle.paper.specs.Valid.{Distinct, Codes, Apart, Listed}
 use Rattle.paper.proofs.Lists.{eqb-yes, eqb-same, or-yes, leb-yes, leb-no, leb-within, leb-beyond, is-in-yes, is-in-no}
 use Rattle.paper.proofs.Reading.{Reads, reads-bind, reads-seq, reads-need, reads-each, reads-no-two, Then, then-seq, then-map, need-then, each-then, no-two-then, between-yes, check-mappings-then, check-numbers-then, Ranged}
 use Rattle.paper.proofs.Reasons.{OfFormula, formula-reasons, OfSteps, steps-reasons}
+
+-- "HEAD has length 4, code and number lists even length, a WITNESS a multiple of 4"
+pub lengths-exactly : (n : ℕ) → ((four n ≡ true) ↔ (n ≡ 4)) × ((even n ≡ true) ↔ ((k : ℕ) × (n ≡ 2 * k))) × ((fours n ≡ true) ↔ ((k : ℕ) × (n ≡ 4 * k)))
+unfolding four even fours
+lengths-exactly n = (
+  (eqb-yes n 4, eqb-same n 4),
+  ((λ e. let z = eqb-yes (n % 2) 0 e in (n / 2, omega arith)), λ r. let h = r .1 in eqb-same (n % 2) 0 (omega arith)),
+  ((λ e. let z = eqb-yes (n % 4) 0 e in (n / 4, omega arith)), λ r. let h = r .1 in eqb-same (n % 4) 0 (omega arith)),
+)
 
 -- "A file is a run of fields: one byte tag, two bytes length (high byte first), then that many bytes." A field is read exactly where its
 -- tag, its length and its payload are right; its payload is then the bytes after these three.

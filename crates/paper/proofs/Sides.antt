@@ -10,13 +10,14 @@ use native.Mathlib.Omega.{arith}
 use lib.Dec.{eqb}
 use lib.ListN.{length, getD, drop, replicate, length-append, length-drop, length-replicate, getD-replicate, List·getD-append}
 use lib.Seq.{getD-append-add, getD-drop}
+use Rattle.paper.specs.declared.Reason.{Reason}
 use Rattle.paper.specs.declared.Verdict.{Verdict}
 use Rattle.paper.specs.Atoms.{complement, _∈_, Clause, Formula, Live, Witness}
 use Rattle.paper.specs.Files.{File, ok, _>>=_, _>>_, need, two, payload, past, field, four, even, codes, Step, RUP-step, SR-step, WSR-step, DELETE-step}
 use Rattle.paper.specs.Conditions.{look, image, is-in, Derived, given, unit, Clash, both, broken, RUP, Trivialises, to-true, to-complements, under, Passes, trivial, opposed, follows, without, after}
 use Rattle.paper.specs.Stowages.{Stowage, variable, value, moved, meets, Meets, carried}
 use Rattle.paper.specs.Refusals.{each, no-two, between, check-clause, read-clauses, read-formula}
-use Rattle.paper.specs.Answers.{numbersOf, Outcome, taken, Judged, rup, sr, wsr, deleted, memory-after, stowed, Carried, start, step}
+use Rattle.paper.specs.Answers.{numbersOf, Outcome, taken, stops, Judged, rup, not-trivialised, sr, sr-lowest, wsr, wsr-lowest, wsr-new, deleted, memory-after, stowed, Carried, start, step}
 use Rattle.paper.proofs.Lists.{complement-twice, complement-inj, complement-even, eqb-yes, eqb-no, eqb-same, eqb-other, is-in-yes, is-in-no, map-out, map-in, under-in, under-out, without-out, after-new, after-old}
 use Rattle.paper.proofs.Judging.{trivialises?, trivialises-yes, trivialises-no, judged-once}
 use Rattle.paper.proofs.Answering.{same-read}
@@ -295,6 +296,18 @@ only-taken (rup r) = (r, refl)
 only-taken (sr r) = ((r .new, r .old), refl)
 only-taken (wsr r) = ((r .new, r .old), refl)
 only-taken deleted = (tt, refl)
+
+-- 15: "lowest such number, C counted with the number it would get": the one named does not pass, and none that does not has a lower one
+pub lowest-sr : {F : Formula} {next : ℕ} {C : Clause} {s : Witness} {r : Reason} {n : ℕ} → Judged F next (SR-step C s) (stops r n) → Trivialises s C
+    → ((D : Clause) × Live F n D × (¬ (Passes F C s D))) × ((m : ℕ) (D : Clause) → Live F m D → ¬ (Passes F C s D) → n ≤ m)
+lowest-sr (not-trivialised a) t = absurd (a t)
+lowest-sr (sr-lowest a l) t = ((l .clause, l .live, l .fails), λ m D q fails. l .least m D q (λ z. elim z [ ]) fails)
+
+pub lowest-wsr : {F : Formula} {next : ℕ} {C : Clause} {s : Witness} {modulo : List ℕ} {r : Reason} {n : ℕ} → Judged F next (WSR-step C s modulo) (stops r n)
+    → (((D : Clause) × Live F n D × (¬ (n ∈ modulo)) × (¬ (Passes F C s D))) ⊎ ((n ≡ next) × (¬ (Passes F C s C))))
+    × ((m : ℕ) (D : Clause) → Live F m D → ¬ (m ∈ modulo) → ¬ (Passes F C s D) → n ≤ m)
+lowest-wsr (wsr-lowest l) = (inl (l .clause, l .live, l .unnamed, l .fails), l .least)
+lowest-wsr (wsr-new all new) = (inr (refl, new), λ m D q out fails. absurd (fails (all m D q out)))
 
 -- what is live after a step: C under its number, and what was live and is not named in MODULO
 pub after-exactly : (modulo : List ℕ) (next : ℕ) (C : Clause) (F : Formula) (n : ℕ) (D : Clause)
