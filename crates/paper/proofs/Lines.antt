@@ -9,6 +9,7 @@ use native.Mathlib.Omega.{arith}
 use lib.Dec.{ltb}
 use Rattle.paper.specs.declared.Reason.{Reason}
 use Rattle.paper.specs.declared.Reason.the-variants.{WorkShort, FileLong, FormulaField, OverLimit, FormulaCode, FormulaTwice, FormulaEnd, ProofField, ProofCode, ProofTwice, NumberNotLive, NumbersUsedUp, NotRup, NotTrivialised, NotPassing, ClauseLong}
+use Rattle.paper.specs.declared.Verdict.{Verdict}
 use Rattle.paper.specs.declared.Verdict.the-variants.{Refuted, Held}
 use Rattle.paper.specs.Atoms.{_∈_}
 use Rattle.paper.specs.Answers.{numberOf, numbersOf, refused}
@@ -108,3 +109,8 @@ pub verdicts-numbered : (n p : ℕ) (r : Reason) → (numbersOf (Refuted n) ≡ 
     × (numbersOf (Held n) ≡ record { verdict = 1; reason = 0; step = n; place = 0 })
     × (numbersOf (refused r n p) ≡ record { verdict = 2; reason = numberOf r; step = n; place = p })
 verdicts-numbered n p r = (refl, refl, refl)
+
+-- "one line of four fields with single spaces": each number is said by its digits, however large
+pub line-fields : (v : Verdict) → line v ≡ word v ++ (32 ∷ digits 20 (numbersOf v .reason)) ++ (32 ∷ digits 20 (numbersOf v .step)) ++ (32 ∷ digits 20 (numbersOf v .place)) ++ (10 ∷ [])
+unfolding line
+line-fields v = refl

@@ -13,13 +13,14 @@ use Rattle.paper.specs.declared.Reason.the-variants.{WorkShort, FileLong
 use Rattle.paper.specs.declared.Extent.{Extent}
 use Rattle.paper.specs.declared.Fields.{Fields}
 use Rattle.paper.specs.declared.Verdict.{Verdict}
-use Rattle.paper.specs.Atoms.{Clause, Formula, Witness}
-use Rattle.paper.specs.Files.{File, Read, ok, bad, _>>=_, _>>_, need, two, payload, field, four, even, codes, mappings, SR-step}
+use Rattle.paper.specs.declared.Verdict.the-variants.{Refuted, Held}
+use Rattle.paper.specs.Atoms.{Clause, Formula, Live, Witness}
+use Rattle.paper.specs.Files.{File, Read, ok, bad, _>>=_, _>>_, need, two, payload, field, four, even, codes, mappings, Step, SR-step}
 use Rattle.paper.specs.Conditions.{Trivialises}
 use Rattle.paper.specs.Refusals.{each, no-two, between, check-clause, read-clauses, read-formula, read-fields, check-mappings, check-numbers, to-step, read-step}
-use Rattle.paper.specs.Answers.{refused, Judged, stops, not-trivialised, sr-lowest, Steps, Within, Answer, work-short, file-long, formula-bad, proof-judged}
+use Rattle.paper.specs.Answers.{refused, taken, Judged, stops, not-trivialised, sr-lowest, Steps, refuted, held, unread, judged, goes-on, Within, Answer, work-short, file-long, formula-bad, proof-judged}
 use Rattle.paper.proofs.Lists.{eqb-same, eqb-other, leb-within, leb-beyond}
-use Rattle.paper.proofs.Answering.{answer-once}
+use Rattle.paper.proofs.Answering.{steps-once, answer-once}
 
 -- "the clause 9, 10, 16": a code out of range is refused first, whatever else is wrong with the clause
 pub range-first : (range twice : Reason) (vars tag : ℕ) (C : Clause) (r : Reason) (p : ℕ) → each range (between 2 (2 * vars + 1)) 2 (tag + 3) C ≡ bad r p
@@ -139,3 +140,24 @@ module _ {words bytes : ℕ} {formula proof : File} {v : Verdict} (answer : Answ
 
       pub steps-last : {vars : ℕ} {F : Formula} {next : ℕ} {u : Verdict} → read-formula formula ≡ ok (vars, F, next) → Steps proof vars F next 0 0 u → v ≡ u
       steps-last {u = u} e s = answer-once words bytes formula proof v u answer (proof-judged within e s)
+
+-- "Refuted: every step is taken and an empty clause is live after the last. Held: every step is taken and none is." "The first step with a
+-- fault is the one answered": what the steps say is nothing else.
+module _ {proof : File} {vars : ℕ} {F : Formula} {next done at : ℕ} {v : Verdict} (x : Steps proof vars F next done at v) where
+  pub end-refuted : (n : ℕ) → length proof ≤ at → Live F n [] → v ≡ Refuted done
+  end-refuted n h l = steps-once proof vars x (refuted {n = n} h l)
+
+  pub end-held : length proof ≤ at → ((n : ℕ) → ¬ (Live F n [])) → v ≡ Held done
+  end-held h none = steps-once proof vars x (held h none)
+
+  module _ (h : at < length proof) where
+    pub step-unread : {r : Reason} {p : ℕ} → read-step proof vars F next at ≡ bad r p → v ≡ refused r (suc done) p
+    step-unread e = steps-once proof vars x (unread h e)
+
+    pub step-stops : {t : Step} {later : ℕ} {r : Reason} {p : ℕ} → read-step proof vars F next at ≡ ok (t, later) → Judged F next t (stops r p)
+        → v ≡ refused r (suc done) p
+    step-stops e j = steps-once proof vars x (judged h e j)
+
+    pub step-taken : {t : Step} {later : ℕ} {G : Formula} {m : ℕ} {u : Verdict} → read-step proof vars F next at ≡ ok (t, later) → Judged F next t (taken G m)
+        → Steps proof vars G m (suc done) later u → v ≡ u
+    step-taken e j y = steps-once proof vars x (goes-on h e j y)

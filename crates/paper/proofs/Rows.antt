@@ -1,5 +1,5 @@
--- Rows beside the paper's cases A to M, worked by hand from the paper: the reasons and places that those do not show, both sides of a
--- limit where a short file shows them, and a step of each kind that is taken.
+-- Rows beside the paper's cases A to M, worked by hand from the paper: the reasons and places that those do not show and a short file can
+-- (Order has 1, 2 and 12), both sides of a limit where it can show them, and a step of each kind that is taken.
 -- Assumes nothing.
 use mathlib.Core.Path.{_≡_, refl}
 use mathlib.Core.List.{List, [], _∷_, _++_, map}
@@ -37,6 +37,9 @@ rows =
     ∷ case (0x01 ∷ 0 ∷ 4 ∷ 0 ∷ 2 ∷ 0 ∷ 1 ∷ 0x02 ∷ 0 ∷ 6 ∷ 0 ∷ 2 ∷ 0 ∷ 2 ∷ 0 ∷ 6 ∷ []) [] (refused FormulaCode 0 14)
     -- 5 of clause 1, before clause 2, which is damaged
     ∷ case (0x01 ∷ 0 ∷ 4 ∷ 0 ∷ 2 ∷ 0 ∷ 2 ∷ 0x02 ∷ 0 ∷ 2 ∷ 0 ∷ 0 ∷ 0x11 ∷ 0 ∷ 0 ∷ []) [] (refused FormulaCode 0 10)
+    -- V 128: code 257, which is 2V+1, and 5: code 258; their high byte counts
+    ∷ case (0x01 ∷ 0 ∷ 4 ∷ 0 ∷ 128 ∷ 0 ∷ 1 ∷ 0x02 ∷ 0 ∷ 2 ∷ 1 ∷ 1 ∷ []) [] (Held 0)
+    ∷ case (0x01 ∷ 0 ∷ 4 ∷ 0 ∷ 128 ∷ 0 ∷ 1 ∷ 0x02 ∷ 0 ∷ 2 ∷ 1 ∷ 2 ∷ []) [] (refused FormulaCode 0 10)
     -- 7: a byte after clause m
     ∷ case (0x01 ∷ 0 ∷ 4 ∷ 0 ∷ 2 ∷ 0 ∷ 1 ∷ 0x02 ∷ 0 ∷ 4 ∷ 0 ∷ 3 ∷ 0 ∷ 5 ∷ 0x02 ∷ []) [] (refused FormulaEnd 0 14)
     -- The steps. 13 of step 1, before step 2, which is damaged
@@ -47,6 +50,8 @@ rows =
     -- 8: a step of odd length, and one cut short
     ∷ case F1 (0x11 ∷ 0 ∷ 1 ∷ 3 ∷ []) (refused ProofField 1 0)
     ∷ case F1 (0x11 ∷ 0 ∷ 2 ∷ 0 ∷ []) (refused ProofField 1 0)
+    -- 8: a DELETE of odd length
+    ∷ case F3 (0x14 ∷ 0 ∷ 3 ∷ 0 ∷ 1 ∷ 0 ∷ []) (refused ProofField 1 0)
     -- 8: an SR step with no WITNESS: the place where it should be, here the file's length
     ∷ case F1 (0x12 ∷ 0 ∷ 2 ∷ 0 ∷ 3 ∷ []) (refused ProofField 1 5)
     -- 8: a WITNESS whose length is no multiple of 4, before 9 of the clause
