@@ -13,7 +13,7 @@ use Rattle.reader.specs.declared.ProofReader.{ProofReader}
 use Rattle.reader.proofs.open as opened
 use Rattle.reader.proofs.expect.Reads as expect
 
--- The toolchain makes no `Post` of a function that is proved by a walk: this is its clause, read as the toolchain reads the others.
+-- Of this function, which is proved by hand, the toolchain makes no `Post`: this is its clause, read as the toolchain reads the others.
 module _ (κs : Lfts 1) (a : ArgsD opened.signature κs) (r : ResD opened.signature κs) (s : AtExit opened.ended κs) where
   abbrev open-clause : (w : World) → Pr w
   open-clause w = opened.clauses (w .𝓤) (w .H) (w .𝓖 .A) (w .𝓜 .mem) (w .𝓡 .run) κs a .ensures tt r s

@@ -12,7 +12,7 @@ use Rattle.sweep.proofs.Once.{swept-once}
 use Rattle.updating.proofs.sweep_into as sweep-into
 use Rattle.updating.proofs.sweep_once.Reads as sweep-once
 
--- The toolchain makes no `Post` of a function that is proved by a walk: this is its clause, read as the toolchain reads the others.
+-- Of this function, which is proved by hand, the toolchain makes no `Post`: this is its clause, read as the toolchain reads the others.
 module _ (κs : Lfts 4) (a : ArgsD sweep-into.signature κs) (r : ResD sweep-into.signature κs) (s : AtExit sweep-into.ended κs) where
   abbrev sweep-into-clause : (w : World) → Pr w
   sweep-into-clause w = sweep-into.clauses (w .𝓤) (w .H) (w .𝓖 .A) (w .𝓜 .mem) (w .𝓡 .run) κs a .ensures tt r s
