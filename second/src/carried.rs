@@ -38,16 +38,7 @@ fn taken(line: &str) -> Result<Option<(usize, bool)>, String> {
 fn take(state: &mut State, proof: &[u8]) -> Result<files::Step, String> {
     let step = files::step(proof, state.at, state.v, &state.live, state.next)
         .map_err(|f| format!("step {} is taken, yet {f:?}", state.taken + 1))?;
-    // "After a step RUP, SR or WSR, C is live and the MODULO clauses aren't."
-    for number in &step.numbers {
-        state.live.remove(number);
-    }
-    if step.kind != Kind::Delete {
-        state.live.insert(state.next, step.clause.clone());
-        state.next += 1;
-    }
-    state.taken += 1;
-    state.at = step.end;
+    state.enter(&step);
     Ok(step)
 }
 

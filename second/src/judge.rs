@@ -75,7 +75,12 @@ impl State {
             Err(Failure::Trivialised) => return fault(14, 0),
             Err(Failure::Passes(number)) => return fault(15, number as usize),
         }
-        // "After a step RUP, SR or WSR, C is live and the MODULO clauses aren't."
+        self.enter(&step);
+        Ok(step)
+    }
+
+    /// "After a step RUP, SR or WSR, C is live and the MODULO clauses aren't."
+    pub fn enter(&mut self, step: &Step) {
         for number in &step.numbers {
             self.live.remove(number);
         }
@@ -85,7 +90,6 @@ impl State {
         }
         self.taken += 1;
         self.at = step.end;
-        Ok(step)
     }
 
     pub fn empty_clause_live(&self) -> bool {

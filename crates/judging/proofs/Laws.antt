@@ -22,6 +22,7 @@ use Rattle.paper.proofs.Lists.{eqb-same, eqb-other, leb-within}
 use Rattle.paper.specs.Valid.{Codes, Apart, Listed}
 use Rattle.paper.proofs.Reading.{Then, Ranged, check-clause-then, check-mappings-then, check-numbers-then}
 use Rattle.paper.proofs.Scan.{length-payload}
+use Rattle.field.specs.declared.Cursor.{Cursor}
 use Rattle.lookup.specs.Clause.{proofWord, ClauseTable}
 use Rattle.lookup.specs.Live.{live}
 use Rattle.lookup.proofs.Table.{used-live, used-length, used-table}
@@ -44,7 +45,6 @@ use Rattle.loading.proofs.Trivial.{images-inward}
 use Rattle.judging.specs.declared.Judgement.{Judgement}
 use Rattle.judging.specs.declared.Judgement.the-variants.{Passed, Stopped}
 use Rattle.judging.specs.declared.StepAnswer.{StepAnswer}
-use Rattle.field.specs.declared.Cursor.{Cursor}
 use Rattle.judging.specs.declared.StepAnswer.the-variants.{Taken}
 use Rattle.judging.specs.Step as step
 use Rattle.judging.specs.Step.{outcome, New, NewJudged, JudgementIs, unread, judged, Checkable, Loadable, Ready, words-after, Done}

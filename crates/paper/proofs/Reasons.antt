@@ -15,8 +15,8 @@ use Rattle.paper.specs.declared.Verdict.the-variants.{Refuted, Held, Ref
 use Rattle.paper.specs.Atoms.{Clause, Formula, Witness}
 use Rattle.paper.specs.Files.{File, Read, bad, _>>=_, _>>_, need, two, payload, past, field, four, even, fours, codes, mappings, Step}
 use Rattle.paper.specs.Refusals.{each, no-two, between, check-clause, read-clauses, read-formula, field-if, read-fields, check-mappings, is-live, check-numbers, read-step}
-use Rattle.paper.proofs.Reading.{Reads, reads-bind, reads-seq, reads-each, reads-no-two}
 use Rattle.paper.specs.Answers.{numberOf, numbersOf, stops, Judged, not-rup, not-trivialised, sr-lowest, wsr-lowest, wsr-new, Steps, refuted, held, unread, judged, goes-on, Answer, work-short, file-long, formula-bad, proof-judged}
+use Rattle.paper.proofs.Reading.{Reads, reads-bind, reads-seq, reads-each, reads-no-two}
 
 -- what holds of the reason, where there is one
 abbrev Else : {A : Type 0} → (Reason → Type 0) → Read A → Type 0

@@ -33,6 +33,11 @@ lengths-exactly n = (
   ((λ e. let z = eqb-yes (n % 4) 0 e in (n / 4, omega arith)), λ r. let h = r .1 in eqb-same (n % 4) 0 (omega arith)),
 )
 
+-- "A code is two bytes, high byte first": the codes of a payload are its bytes two by two, whatever they are
+pub codes-pair : (a b : ℕ) (bs : List ℕ) → codes (a ∷ b ∷ bs) ≡ (a * 256 + b) ∷ codes bs
+unfolding codes
+codes-pair a b bs = refl
+
 -- "A file is a run of fields: one byte tag, two bytes length (high byte first), then that many bytes." A field is read exactly where its
 -- tag, its length and its payload are right; its payload is then the bytes after these three.
 pub record Whole (tag : ℕ) (allowed : ℕ → Bool) (f : File) (at : ℕ) (e : Extent) : Type 0 where
@@ -283,6 +288,27 @@ end-exactly f vars m n at h = (
   λ e. let b = leb-beyond (suc at) (length f) (omega arith) in rw b,
 )
 
+-- "for each clause 7 (bytes at an end), 3, 5, 6, 16": where the file goes on, its field, then its codes (`Order.clause-first`), then the rest
+pub clauses-none : (f : File) (vars n at : ℕ) → read-clauses f vars zero n at ≡ ok ([], at)
+unfolding read-clauses
+clauses-none f vars n at = refl
+
+module _ (f : File) (vars m n at : ℕ) (here : at < length f) where
+  pub clause-field : (r : Reason) (p : ℕ) → field FormulaField 0x02 even f at ≡ bad r p → read-clauses f vars (suc m) n at ≡ bad r p
+  unfolding read-clauses need _>>=_ _>>_
+  clause-field r p a = rw (leb-within (suc at) (length f) here, need, _>>_, a)
+
+  module _ (e : Extent) (a : field FormulaField 0x02 even f at ≡ ok e)
+      (b : check-clause FormulaCode FormulaTwice vars at (codes (payload f e)) ≡ ok tt) where
+    pub clause-read : (F : Formula) (later : ℕ) → read-clauses f vars m (suc n) (past e) ≡ ok (F, later)
+        → read-clauses f vars (suc m) n at ≡ ok ((n, codes (payload f e)) ∷ F, later)
+    unfolding read-clauses need _>>=_ _>>_
+    clause-read F later c = rw (leb-within (suc at) (length f) here, need, _>>_, a, _>>=_, b, c)
+
+    pub clause-later : (r : Reason) (p : ℕ) → read-clauses f vars m (suc n) (past e) ≡ bad r p → read-clauses f vars (suc m) n at ≡ bad r p
+    unfolding read-clauses need _>>=_ _>>_
+    clause-later r p c = rw (leb-within (suc at) (length f) here, need, _>>_, a, _>>=_, b, c)
+
 over-limit : (v m high most : ℕ) → ((leb v high && leb m most) ≡ false) ↔ ((high < v) ⊎ (most < m))
 over-limit v m high most = ((λ e. there (leb v high) refl (leb m most) refl e), back)
   where
@@ -338,12 +364,21 @@ module _ (f : File) (e : Extent) (head : field FormulaField 0x01 four f 0 ≡ ok
     unfolding read-formula need _>>=_ _>>_
     formula-whole h = rw (head, _>>=_, leb-within (two f 3) 4095 low, leb-within (two f 5) 16383 few, head-past .1, clauses, leb-within (length f) at (omega arith))
 
+-- a field that the step does not have
+abbrev none-at : ℕ → Extent
+none-at at = record { start = at; size = 0 }
+
 -- "8 over all its fields": the step's own field, then a WITNESS after that of SR and WSR, then a MODULO after the WITNESS of WSR; what is
 -- missing is refused where it should stand (`Order.field-place`).
 module _ (f : File) (at : ℕ) where
   pub tag-first : (getD f at 0 < 0x11) ⊎ (0x14 < getD f at 0) → read-fields f at ≡ bad ProofField at
   unfolding read-fields need _>>_
   tag-first h = rw (between-outside 0x11 0x14 (getD f at 0) h)
+
+  pub own-field : (r : Reason) (p : ℕ) → 0x11 ≤ getD f at 0 → getD f at 0 ≤ 0x14 → field ProofField (getD f at 0) even f at ≡ bad r p
+      → read-fields f at ≡ bad r p
+  unfolding read-fields need _>>=_ _>>_
+  own-field r p low high a = rw (between-within 0x11 0x14 (getD f at 0) low high, need, _>>_, a)
 
   module _ (r : Reason) (p : ℕ) (c : Extent) where
     pub sr-witness : getD f at 0 ≡ 0x12 → field ProofField 0x12 even f at ≡ ok c → field ProofField 0x21 fours f (past c) ≡ bad r p
@@ -360,6 +395,28 @@ module _ (f : File) (at : ℕ) where
         → field ProofField 0x22 even f (past w) ≡ bad r p → read-fields f at ≡ bad r p
     unfolding read-fields field-if between need _>>=_ _>>_
     wsr-modulo w t a b d = rw (t, a, _>>=_, b, d)
+
+  -- and each kind is read where all of its fields are whole
+  module _ (c : Extent) where
+    pub rup-fields : getD f at 0 ≡ 0x11 → field ProofField 0x11 even f at ≡ ok c
+        → read-fields f at ≡ ok (record { clause = c; witness = none-at (past c); numbers = none-at (past (none-at (past c))); next = past (none-at (past (none-at (past c)))) })
+    unfolding read-fields field-if between need _>>=_ _>>_
+    rup-fields t a = rw (t, a, _>>=_)
+
+    pub delete-fields : getD f at 0 ≡ 0x14 → field ProofField 0x14 even f at ≡ ok c
+        → read-fields f at ≡ ok (record { clause = none-at (past (none-at (past c))); witness = none-at (past (none-at (past c))); numbers = c; next = past c })
+    unfolding read-fields field-if between need _>>=_ _>>_
+    delete-fields t a = rw (t, a, _>>=_)
+
+    pub sr-fields : (w : Extent) → getD f at 0 ≡ 0x12 → field ProofField 0x12 even f at ≡ ok c → field ProofField 0x21 fours f (past c) ≡ ok w
+        → read-fields f at ≡ ok (record { clause = c; witness = w; numbers = none-at (past w); next = past (none-at (past w)) })
+    unfolding read-fields field-if between need _>>=_ _>>_
+    sr-fields w t a b = rw (t, a, _>>=_, b)
+
+    pub wsr-fields : (w n : Extent) → getD f at 0 ≡ 0x13 → field ProofField 0x13 even f at ≡ ok c → field ProofField 0x21 fours f (past c) ≡ ok w
+        → field ProofField 0x22 even f (past w) ≡ ok n → read-fields f at ≡ ok (record { clause = c; witness = w; numbers = n; next = past n })
+    unfolding read-fields field-if between need _>>=_ _>>_
+    wsr-fields w n t a b d = rw (t, a, _>>=_, b, d)
 
 -- "0x11 RUP step, 0x12 SR step, 0x13 WSR step, 0x14 DELETE step"
 pub steps-by-tag : (C : Clause) (s : Witness) (ns : List ℕ) → (to-step 0x11 C s ns ≡ RUP-step C) × (to-step 0x12 C s ns ≡ SR-step C s)
@@ -383,61 +440,3 @@ long-only {formula} {proof} {v} (proof-judged w q s) e = side v (steps-reasons s
     side (Refuted n) h z = absurd (omega arith)
     side (Held n) h z = absurd (omega arith)
     side (Refused f) h z = absurd (omega arith)
-
--- "A code is two bytes, high byte first": the codes of a payload are its bytes two by two, whatever they are
-pub codes-pair : (a b : ℕ) (bs : List ℕ) → codes (a ∷ b ∷ bs) ≡ (a * 256 + b) ∷ codes bs
-unfolding codes
-codes-pair a b bs = refl
-
--- "for each clause 7 (bytes at an end), 3, 5, 6, 16": where the file goes on, its field, then its codes (`Order.clause-first`), then the rest
-pub clauses-none : (f : File) (vars n at : ℕ) → read-clauses f vars zero n at ≡ ok ([], at)
-unfolding read-clauses
-clauses-none f vars n at = refl
-
-module _ (f : File) (vars m n at : ℕ) (here : at < length f) where
-  pub clause-field : (r : Reason) (p : ℕ) → field FormulaField 0x02 even f at ≡ bad r p → read-clauses f vars (suc m) n at ≡ bad r p
-  unfolding read-clauses need _>>=_ _>>_
-  clause-field r p a = rw (leb-within (suc at) (length f) here, need, _>>_, a)
-
-  module _ (e : Extent) (a : field FormulaField 0x02 even f at ≡ ok e)
-      (b : check-clause FormulaCode FormulaTwice vars at (codes (payload f e)) ≡ ok tt) where
-    pub clause-read : (F : Formula) (later : ℕ) → read-clauses f vars m (suc n) (past e) ≡ ok (F, later)
-        → read-clauses f vars (suc m) n at ≡ ok ((n, codes (payload f e)) ∷ F, later)
-    unfolding read-clauses need _>>=_ _>>_
-    clause-read F later c = rw (leb-within (suc at) (length f) here, need, _>>_, a, _>>=_, b, c)
-
-    pub clause-later : (r : Reason) (p : ℕ) → read-clauses f vars m (suc n) (past e) ≡ bad r p → read-clauses f vars (suc m) n at ≡ bad r p
-    unfolding read-clauses need _>>=_ _>>_
-    clause-later r p c = rw (leb-within (suc at) (length f) here, need, _>>_, a, _>>=_, b, c)
-
--- a field that the step does not have
-abbrev none-at : ℕ → Extent
-none-at at = record { start = at; size = 0 }
-
--- the fields of a step: its own, of even length, is refused first; and each kind is read where all of its fields are whole
-module _ (f : File) (at : ℕ) where
-  pub own-field : (r : Reason) (p : ℕ) → 0x11 ≤ getD f at 0 → getD f at 0 ≤ 0x14 → field ProofField (getD f at 0) even f at ≡ bad r p
-      → read-fields f at ≡ bad r p
-  unfolding read-fields need _>>=_ _>>_
-  own-field r p low high a = rw (between-within 0x11 0x14 (getD f at 0) low high, need, _>>_, a)
-
-  module _ (c : Extent) where
-    pub rup-fields : getD f at 0 ≡ 0x11 → field ProofField 0x11 even f at ≡ ok c
-        → read-fields f at ≡ ok (record { clause = c; witness = none-at (past c); numbers = none-at (past (none-at (past c))); next = past (none-at (past (none-at (past c)))) })
-    unfolding read-fields field-if between need _>>=_ _>>_
-    rup-fields t a = rw (t, a, _>>=_)
-
-    pub delete-fields : getD f at 0 ≡ 0x14 → field ProofField 0x14 even f at ≡ ok c
-        → read-fields f at ≡ ok (record { clause = none-at (past (none-at (past c))); witness = none-at (past (none-at (past c))); numbers = c; next = past c })
-    unfolding read-fields field-if between need _>>=_ _>>_
-    delete-fields t a = rw (t, a, _>>=_)
-
-    pub sr-fields : (w : Extent) → getD f at 0 ≡ 0x12 → field ProofField 0x12 even f at ≡ ok c → field ProofField 0x21 fours f (past c) ≡ ok w
-        → read-fields f at ≡ ok (record { clause = c; witness = w; numbers = none-at (past w); next = past (none-at (past w)) })
-    unfolding read-fields field-if between need _>>=_ _>>_
-    sr-fields w t a b = rw (t, a, _>>=_, b)
-
-    pub wsr-fields : (w n : Extent) → getD f at 0 ≡ 0x13 → field ProofField 0x13 even f at ≡ ok c → field ProofField 0x21 fours f (past c) ≡ ok w
-        → field ProofField 0x22 even f (past w) ≡ ok n → read-fields f at ≡ ok (record { clause = c; witness = w; numbers = n; next = past n })
-    unfolding read-fields field-if between need _>>=_ _>>_
-    wsr-fields w n t a b d = rw (t, a, _>>=_, b, d)

@@ -15,8 +15,7 @@ ghost use Rattle.field.specs.Field.{allowedBy, expectedOf};
 ghost use Rattle.lookup.specs.Live.{live};
 ghost use Rattle.steps.specs.Steps.{fieldsOf, checkedBy, removed, Below};
 
-// The fields of a step and the cursor past them; or the place where one is missing, has the wrong tag, is cut short or has a length that
-// is not allowed.
+// The fields of a step and the cursor past them; or the place of the first that is missing or not as it must be.
 pub enum FieldsRead {
     Whole { fields: Fields, next: Cursor },
     Bad(usize),
