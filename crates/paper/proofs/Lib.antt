@@ -14,3 +14,4 @@ pub mod Rows
 pub mod Sides
 pub mod Lines
 pub mod Rules
+pub mod Facts

@@ -1,0 +1,167 @@
+-- Paper 02, §13, "Two facts for the manual": of a WSR step with a longer MODULO list, and of one with an empty witness. "Both concern the
+-- one step, past reasons 8 to 12; later steps may differ."
+-- Assumes nothing.
+use Prim.Native.Nat.{ℕ, zero, suc, _+_, _*_, _%_, _/_, _≤_}
+use mathlib.Core.Path.{_≡_, refl, sym, ap, _∙_, subst}
+use mathlib.Core.Logic.{_⊎_, inl, inr, _↔_}
+use mathlib.Core.Bool.{Bool, true, false}
+use mathlib.Core.List.{List, [], _∷_, _++_, map, List·Memᴰ·append-cases, Memᴰ·append-left, Memᴰ·append-right}
+use native.Mathlib.Omega.{arith}
+use lib.Dec.{eqb}
+use Rattle.paper.specs.declared.Reason.the-variants.{NotRup, NotPassing}
+use Rattle.paper.specs.declared.Verdict.the-variants.{Refuted, Held}
+use Rattle.paper.specs.Atoms.{complement, _∈_, Clause, Formula, Live, Witness}
+use Rattle.paper.specs.Files.{RUP-step, WSR-step}
+use Rattle.paper.specs.Conditions.{look, image, Derived, given, unit, Clash, both, broken, RUP, to-true, to-complements, under, Passes, trivial, opposed, follows, WSR, after}
+use Rattle.paper.specs.Answers.{taken, stops, Judged, rup, not-rup, wsr, wsr-lowest, wsr-new, refused, Answer}
+use Rattle.paper.specs.Valid.{Valid, Seen}
+use Rattle.paper.proofs.Lists.{complement-even, eqb-yes, eqb-no, map-out, map-in, under-in, under-out}
+use Rattle.paper.proofs.Sides.{image-variable, derived-least}
+use Rattle.paper.proofs.Cases.{Case, case, F4, one-to-T, modulo-none, answer-of, cases-right}
+
+-- 1. "a WSR step that is taken with one MODULO list is also taken with any longer list of live numbers that holds it"
+-- The conditions ask less of a longer list, whatever it holds: nothing that the reading has seen is needed.
+pub longer-taken : {F G : Formula} {next m : ℕ} {C : Clause} {s : Witness} (modulo longer : List ℕ) → ((n : ℕ) → n ∈ modulo → n ∈ longer)
+    → Judged F next (WSR-step C s modulo) (taken G m) → Judged F next (WSR-step C s longer) (taken (after longer next C F) m)
+longer-taken modulo longer holds (wsr w) =
+    wsr {modulo = longer} (record { new = w .new; old = λ n D q out. w .old n D q (λ named. out (holds n named)) })
+
+-- 2. Propagation from more literals clashes too, so a clause that is RUP passes whatever the witness.
+module _ (F : Formula) {A B : List ℕ} (more : (l : ℕ) → l ∈ A → l ∈ B) where
+  derived-more : {l : ℕ} → Derived F A l → Derived F B l
+  derived-more = derived-least F A (Derived F B) (record { holds = λ l m. given (more l m); closed = λ n D l q m fellows. unit q m fellows })
+
+  clash-more : Clash F A → Clash F B
+  clash-more (both p q) = both (derived-more p) (derived-more q)
+  clash-more (broken q all) = broken q (λ k m. derived-more (all k m))
+
+rup-more : (F : Formula) (C E : Clause) → ((l : ℕ) → l ∈ C → l ∈ E) → RUP F C → RUP F E
+rup-more F C E more r = clash-more F complements r
+  where
+    complements : (a : ℕ) → a ∈ map complement C → a ∈ map complement E
+    complements a m =
+        let q = map-out complement C m in
+        subst (λ (x : ℕ). x ∈ map complement E) (sym (q .2)) (map-in complement (more (q .0) (q .1)))
+
+rup-passes : (F : Formula) (C : Clause) (s : Witness) (D : Clause) → RUP F C → Passes F C s D
+rup-passes F C s D r = follows (rup-more F C (C ++ under s D) (λ l m. Memᴰ·append-left (under s D) m) r)
+
+-- with a literal and its complement in it, a clause is RUP over any clauses
+rup-both : (F : Formula) (C : Clause) (l : ℕ) → l ∈ C → complement l ∈ C → RUP F C
+rup-both F C l m k = both (given (map-in complement m)) (given (map-in complement k))
+
+-- 3. The empty witness sends every atom to itself.
+look-itself : (v : ℕ) → look [] v ≡ 2 * v
+unfolding look
+look-itself zero = refl
+look-itself (suc v) = refl
+
+image-itself : (a : ℕ) → image [] a ≡ a
+image-itself a = go (eqb (a % 2) 0) refl
+  where
+    go : (b : Bool) → eqb (a % 2) 0 ≡ b → image [] a ≡ a
+    go true e =
+        let z = eqb-yes (a % 2) 0 e in
+        let q : a ≡ 2 * (a / 2) = omega arith in
+        ap (image []) q ∙ (image-variable [] (a / 2)) .0 ∙ look-itself (a / 2) ∙ sym q
+    go false e =
+        let z = eqb-no (a % 2) 0 e in
+        let q : a ≡ 2 * (a / 2) + 1 = omega arith in
+        ap (image []) q ∙ (image-variable [] (a / 2)) .1 ∙ ap complement (look-itself (a / 2)) ∙ complement-even (a / 2) ∙ sym q
+
+under-itself : (D : Clause) (l : ℕ) → l ∈ under [] D → l ∈ D
+under-itself D l m = let q = under-out [] D m in subst (λ (k : ℕ). k ∈ D) (sym (q .2 ∙ image-itself (q .0))) (q .1)
+
+-- 4. "A WSR step with an empty witness and empty MODULO passes its conditions exactly when the RUP step of the same clause does, as
+-- corollary 9 says." Of what the reading has seen of C this is needed: that no literal of it is true; a variable might stand in it twice.
+module _ (F : Formula) (C : Clause) (literals : (l : ℕ) → l ∈ C → 2 ≤ l) where
+  passes-rup : Passes F C [] C → RUP F C
+  passes-rup (trivial (to-true {l} m e)) = absurd (omega (arith, literals l m, sym (image-itself l) ∙ e))
+  passes-rup (trivial (to-complements {l} {k} m q e)) =
+      rup-both F C k q (subst (λ (x : ℕ). x ∈ C) (sym (image-itself l) ∙ e ∙ ap complement (image-itself k)) m)
+  passes-rup (opposed {l} m q) = rup-both F C l (under-itself C l m) q
+  passes-rup (follows r) = rup-more F (C ++ under [] C) C (λ l m. either l (List·Memᴰ·append-cases C m)) r
+    where
+      either : (l : ℕ) → (l ∈ C) ⊎ (l ∈ under [] C) → l ∈ C
+      either l (inl m) = m
+      either l (inr m) = under-itself C l m
+
+  -- MODULO has no say in it, empty or not: it only tells what is no longer live after the step
+  pub empty-witness : (modulo : List ℕ) → WSR F C [] modulo ↔ RUP F C
+  empty-witness modulo =
+      ((λ w. passes-rup (w .new)), λ r. record { new = rup-passes F C [] C r; old = λ n D q out. rup-passes F C [] D r })
+
+module _ (vars : ℕ) (F : Formula) (next : ℕ) (C : Clause) (seen : Seen vars F next (RUP-step C)) where
+  literals : (l : ℕ) → l ∈ C → 2 ≤ l
+  literals l m = omega (arith, seen .codes l m)
+
+  -- taken both, with the same clauses live after it, or neither
+  pub empty-as-rup : {G : Formula} {m : ℕ} → Judged F next (WSR-step C [] []) (taken G m) ↔ Judged F next (RUP-step C) (taken G m)
+  empty-as-rup = ((λ j. there j), λ j. back j)
+    where
+      there : {G : Formula} {m : ℕ} → Judged F next (WSR-step C [] []) (taken G m) → Judged F next (RUP-step C) (taken G m)
+      there (wsr w) = rup ((empty-witness F C literals []) .0 w)
+
+      back : {G : Formula} {m : ℕ} → Judged F next (RUP-step C) (taken G m) → Judged F next (WSR-step C [] []) (taken G m)
+      back (rup r) = wsr ((empty-witness F C literals []) .1 r)
+
+  -- where the RUP step is refused, the other is too, and reason 15 names its own clause
+  pub empty-refused : Valid vars F → Judged F next (WSR-step C [] []) (stops NotPassing next) ↔ Judged F next (RUP-step C) (stops NotRup 0)
+  empty-refused valid = ((λ j. there j), λ j. back j)
+    where
+      -- a live clause passes, since it is its own image
+      passes : (n : ℕ) (D : Clause) → Live F n D → Passes F C [] D
+      passes n D q = follows (broken q (λ k m. given (map-in complement (Memᴰ·append-right C (among k m)))))
+        where
+          among : (k : ℕ) → k ∈ D → k ∈ under [] D
+          among k m =
+              subst (λ (x : ℕ). x ∈ under [] D) (image-itself k)
+              (under-in [] D m (λ e. absurd (omega (arith, valid .codes n D q k m, sym (image-itself k) ∙ e))))
+
+      there : Judged F next (WSR-step C [] []) (stops NotPassing next) → Judged F next (RUP-step C) (stops NotRup 0)
+      there (wsr-lowest l) = absurd (l .fails (passes next (l .clause) (l .live)))
+      there (wsr-new all new) = not-rup (λ r. new (rup-passes F C [] C r))
+
+      back : Judged F next (RUP-step C) (stops NotRup 0) → Judged F next (WSR-step C [] []) (stops NotPassing next)
+      back (not-rup fails) = wsr-new (λ n D q out. passes n D q) (λ p. fails (passes-rup F C literals p))
+
+-- 5. What the facts do not say, worked by hand.
+-- V=3, 1:[-1 2], 2:[3]
+abbrev F5 : List ℕ
+F5 = 0x01 ∷ 0 ∷ 4 ∷ 0 ∷ 3 ∷ 0 ∷ 2 ∷ 0x02 ∷ 0 ∷ 4 ∷ 0 ∷ 3 ∷ 0 ∷ 4 ∷ 0x02 ∷ 0 ∷ 2 ∷ 0 ∷ 6 ∷ []
+
+-- WSR [1], 1 to T; and RUP [3] behind it
+abbrev one : List ℕ
+one = (0x13 ∷ 0 ∷ 2 ∷ 0 ∷ 2 ∷ []) ++ one-to-T
+
+abbrev three : List ℕ
+three = 0x11 ∷ 0 ∷ 2 ∷ 0 ∷ 6 ∷ []
+
+-- WSR [-2], no mapping; and RUP [] behind it
+abbrev minus-two : List ℕ
+minus-two = 0x13 ∷ 0 ∷ 2 ∷ 0 ∷ 5 ∷ 0x21 ∷ 0 ∷ 0 ∷ []
+
+abbrev empty : List ℕ
+empty = 0x11 ∷ 0 ∷ 0 ∷ []
+
+abbrev pub facts : List Case
+facts =
+    -- modulo 1: taken, and the step behind it too
+    case F5 (one ++ (0x22 ∷ 0 ∷ 2 ∷ 0 ∷ 1 ∷ []) ++ three) (Held 2)
+    -- modulo 1, 2: taken, but a later step misses clause 2
+    ∷ case F5 (one ++ (0x22 ∷ 0 ∷ 4 ∷ 0 ∷ 1 ∷ 0 ∷ 2 ∷ []) ++ three) (refused NotRup 2 0)
+    -- modulo 2, which does not hold the first list
+    ∷ case F5 (one ++ (0x22 ∷ 0 ∷ 2 ∷ 0 ∷ 2 ∷ []) ++ three) (refused NotPassing 1 1)
+    -- RUP [-2], and WSR [-2] with no mapping, modulo none: the same follows
+    ∷ case F4 ((0x11 ∷ 0 ∷ 2 ∷ 0 ∷ 5 ∷ []) ++ empty) (Refuted 2)
+    ∷ case F4 (minus-two ++ modulo-none ++ empty) (Refuted 2)
+    -- modulo 2: taken, but a later step misses clause 2
+    ∷ case F4 (minus-two ++ (0x22 ∷ 0 ∷ 2 ∷ 0 ∷ 2 ∷ []) ++ empty) (refused NotRup 2 0)
+    ∷ []
+
+computed : map answer-of facts ≡ map (λ (c : Case). c .says) facts
+unfolding answer-of
+computed = refl
+
+pub facts-worked : (c : Case) → c ∈ facts → Answer 16384 8192 (c .formula) (c .proof) (c .says)
+facts-worked = cases-right facts computed
