@@ -3,28 +3,30 @@
 -- Assumes nothing.
 use Prim.Native.Nat.{ℕ, zero, suc, _+_, _*_, _%_, _/_, _≤_}
 use mathlib.Core.Path.{_≡_, refl, sym, ap, _∙_, subst}
-use mathlib.Core.Logic.{_⊎_, inl, inr, _↔_}
+use mathlib.Core.Logic.{_⊎_, inl, inr, ⊎-elim, _↔_}
 use mathlib.Core.Bool.{Bool, true, false}
 use mathlib.Core.List.{List, [], _∷_, _++_, map, List·Memᴰ·append-cases, Memᴰ·append-left, Memᴰ·append-right}
 use native.Mathlib.Omega.{arith}
 use lib.Dec.{eqb}
+use Rattle.paper.specs.declared.Reason.{Reason}
 use Rattle.paper.specs.declared.Reason.the-variants.{NotRup, NotPassing}
 use Rattle.paper.specs.declared.Verdict.the-variants.{Refuted, Held}
 use Rattle.paper.specs.Atoms.{complement, _∈_, Clause, Formula, Live, Witness}
 use Rattle.paper.specs.Files.{RUP-step, WSR-step}
-use Rattle.paper.specs.Conditions.{look, image, Derived, given, unit, Clash, both, broken, RUP, to-true, to-complements, under, Passes, trivial, opposed, follows, WSR, after}
-use Rattle.paper.specs.Answers.{taken, stops, Judged, rup, not-rup, wsr, wsr-lowest, wsr-new, refused, Answer}
+use Rattle.paper.specs.Conditions.{look, image, Derived, given, unit, Clash, both, broken, RUP, Trivialises, to-true, to-complements, under, Passes, follows, after}
+use Rattle.paper.specs.Answers.{taken, stops, Judged, refused, Answer}
 use Rattle.paper.specs.Valid.{Valid, Seen}
 use Rattle.paper.proofs.Lists.{complement-even, eqb-yes, eqb-no, map-out, map-in, under-in, under-out}
-use Rattle.paper.proofs.Sides.{image-variable, derived-least}
+use Rattle.paper.proofs.Sides.{image-variable, derived-least, passes-exactly, Asks, only-taken, always-taken, lowest-wsr}
 use Rattle.paper.proofs.Cases.{Case, case, F4, one-to-T, modulo-none, answer-of, cases-right}
 
 -- 1. "a WSR step that is taken with one MODULO list is also taken with any longer list of live numbers that holds it"
--- The conditions ask less of a longer list, whatever it holds: nothing that the reading has seen is needed.
+-- Nothing that the reading has seen is needed: the conditions ask less of a longer list, whatever it holds.
 pub longer-taken : {F G : Formula} {next m : ℕ} {C : Clause} {s : Witness} (modulo longer : List ℕ) → ((n : ℕ) → n ∈ modulo → n ∈ longer)
-    → Judged F next (WSR-step C s modulo) (taken G m) → Judged F next (WSR-step C s longer) (taken (after longer next C F) m)
-longer-taken modulo longer holds (wsr w) =
-    wsr {modulo = longer} (record { new = w .new; old = λ n D q out. w .old n D q (λ named. out (holds n named)) })
+    → Judged F next (WSR-step C s modulo) (taken G m) → Judged F next (WSR-step C s longer) (taken (after longer next C F) (suc next))
+longer-taken {F} {next} {C} {s} modulo longer holds j =
+    let asked = (only-taken j) .0 in
+    always-taken F next (WSR-step C s longer) (asked .0, λ n D q out. asked .1 n D q (λ named. out (holds n named)))
 
 -- 2. Propagation from more literals clashes too, so a clause that is RUP passes whatever the witness.
 module _ (F : Formula) {A B : List ℕ} (more : (l : ℕ) → l ∈ A → l ∈ B) where
@@ -75,55 +77,53 @@ under-itself D l m = let q = under-out [] D m in subst (λ (k : ℕ). k ∈ D) (
 -- 4. "A WSR step with an empty witness and empty MODULO passes its conditions exactly when the RUP step of the same clause does, as
 -- corollary 9 says." Of what the reading has seen of C this is needed: that no literal of it is true; a variable might stand in it twice.
 module _ (F : Formula) (C : Clause) (literals : (l : ℕ) → l ∈ C → 2 ≤ l) where
-  passes-rup : Passes F C [] C → RUP F C
-  passes-rup (trivial (to-true {l} m e)) = absurd (omega (arith, literals l m, sym (image-itself l) ∙ e))
-  passes-rup (trivial (to-complements {l} {k} m q e)) =
+  trivial-rup : Trivialises [] C → RUP F C
+  trivial-rup (to-true {l} m e) = absurd (omega (arith, literals l m, sym (image-itself l) ∙ e))
+  trivial-rup (to-complements {l} {k} m q e) =
       rup-both F C k q (subst (λ (x : ℕ). x ∈ C) (sym (image-itself l) ∙ e ∙ ap complement (image-itself k)) m)
-  passes-rup (opposed {l} m q) = rup-both F C l (under-itself C l m) q
-  passes-rup (follows r) = rup-more F (C ++ under [] C) C (λ l m. either l (List·Memᴰ·append-cases C m)) r
+
+  passes-rup : Passes F C [] C → RUP F C
+  passes-rup p = go ((passes-exactly F C [] C) .0 p)
     where
       either : (l : ℕ) → (l ∈ C) ⊎ (l ∈ under [] C) → l ∈ C
       either l (inl m) = m
       either l (inr m) = under-itself C l m
 
-  -- MODULO has no say in it, empty or not: it only tells what is no longer live after the step
-  pub empty-witness : (modulo : List ℕ) → WSR F C [] modulo ↔ RUP F C
-  empty-witness modulo =
-      ((λ w. passes-rup (w .new)), λ r. record { new = rup-passes F C [] C r; old = λ n D q out. rup-passes F C [] D r })
+      go : Trivialises [] C ⊎ ((l : ℕ) × (l ∈ under [] C) × (complement l ∈ C)) ⊎ RUP F (C ++ under [] C) → RUP F C
+      go (inl t) = trivial-rup t
+      go (inr (inl r)) = rup-both F C (r .0) (under-itself C (r .0) (r .1)) (r .2)
+      go (inr (inr r)) = rup-more F (C ++ under [] C) C (λ l m. either l (List·Memᴰ·append-cases C m)) r
 
-module _ (vars : ℕ) (F : Formula) (next : ℕ) (C : Clause) (seen : Seen vars F next (RUP-step C)) where
-  literals : (l : ℕ) → l ∈ C → 2 ≤ l
-  literals l m = omega (arith, seen .codes l m)
+  -- MODULO has no say in whether it is taken, empty or not: it only tells what is no longer live after the step
+  pub empty-witness : (modulo : List ℕ) → Asks F (WSR-step C [] modulo) ↔ Asks F (RUP-step C)
+  empty-witness modulo = ((λ a. passes-rup (a .0)), λ r. (rup-passes F C [] C r, λ n D q out. rup-passes F C [] D r))
 
-  -- taken both, with the same clauses live after it, or neither
-  pub empty-as-rup : {G : Formula} {m : ℕ} → Judged F next (WSR-step C [] []) (taken G m) ↔ Judged F next (RUP-step C) (taken G m)
-  empty-as-rup = ((λ j. there j), λ j. back j)
-    where
-      there : {G : Formula} {m : ℕ} → Judged F next (WSR-step C [] []) (taken G m) → Judged F next (RUP-step C) (taken G m)
-      there (wsr w) = rup ((empty-witness F C literals []) .0 w)
+-- taken both, with the same clauses live after it and the same next number, or neither
+pub empty-as-rup : (vars : ℕ) (F : Formula) (next : ℕ) (C : Clause) → Seen vars F next (RUP-step C) → (G : Formula) (m : ℕ)
+    → Judged F next (WSR-step C [] []) (taken G m) ↔ Judged F next (RUP-step C) (taken G m)
+empty-as-rup vars F next C seen G m = (there, back)
+  where
+    asked : Asks F (WSR-step C [] []) ↔ Asks F (RUP-step C)
+    asked = empty-witness F C (λ l m. omega (arith, seen .codes l m)) []
 
-      back : {G : Formula} {m : ℕ} → Judged F next (RUP-step C) (taken G m) → Judged F next (WSR-step C [] []) (taken G m)
-      back (rup r) = wsr ((empty-witness F C literals []) .1 r)
+    there : Judged F next (WSR-step C [] []) (taken G m) → Judged F next (RUP-step C) (taken G m)
+    there j = let t = only-taken j in subst (Judged F next (RUP-step C)) (sym (t .1)) (always-taken F next (RUP-step C) (asked .0 (t .0)))
 
-  -- where the RUP step is refused, the other is too, and reason 15 names its own clause
-  pub empty-refused : Valid vars F → Judged F next (WSR-step C [] []) (stops NotPassing next) ↔ Judged F next (RUP-step C) (stops NotRup 0)
-  empty-refused valid = ((λ j. there j), λ j. back j)
-    where
-      -- a live clause passes, since it is its own image
-      passes : (n : ℕ) (D : Clause) → Live F n D → Passes F C [] D
-      passes n D q = follows (broken q (λ k m. given (map-in complement (Memᴰ·append-right C (among k m)))))
-        where
-          among : (k : ℕ) → k ∈ D → k ∈ under [] D
-          among k m =
-              subst (λ (x : ℕ). x ∈ under [] D) (image-itself k)
-              (under-in [] D m (λ e. absurd (omega (arith, valid .codes n D q k m, sym (image-itself k) ∙ e))))
+    back : Judged F next (RUP-step C) (taken G m) → Judged F next (WSR-step C [] []) (taken G m)
+    back j = let t = only-taken j in subst (Judged F next (WSR-step C [] [])) (sym (t .1)) (always-taken F next (WSR-step C [] []) (asked .1 (t .0)))
 
-      there : Judged F next (WSR-step C [] []) (stops NotPassing next) → Judged F next (RUP-step C) (stops NotRup 0)
-      there (wsr-lowest l) = absurd (l .fails (passes next (l .clause) (l .live)))
-      there (wsr-new all new) = not-rup (λ r. new (rup-passes F C [] C r))
+-- Where a step with an empty witness is refused, reason 15 names its own clause: a live one is its own image, and passes.
+pub empty-refused : (vars : ℕ) (F : Formula) (next : ℕ) (C : Clause) (modulo : List ℕ) → Valid vars F → (r : Reason) (n : ℕ)
+    → Judged F next (WSR-step C [] modulo) (stops r n) → n ≡ next
+empty-refused vars F next C modulo valid r n j = ⊎-elim (λ q. absurd (q .3 (passes (q .0) (q .1)))) (λ q. q .0) ((lowest-wsr j) .0)
+  where
+    among : (D : Clause) → Live F n D → (k : ℕ) → k ∈ D → k ∈ under [] D
+    among D q k m =
+        subst (λ (x : ℕ). x ∈ under [] D) (image-itself k)
+        (under-in [] D m (λ e. absurd (omega (arith, valid .codes n D q k m, sym (image-itself k) ∙ e))))
 
-      back : Judged F next (RUP-step C) (stops NotRup 0) → Judged F next (WSR-step C [] []) (stops NotPassing next)
-      back (not-rup fails) = wsr-new (λ n D q out. passes n D q) (λ p. fails (passes-rup F C literals p))
+    passes : (D : Clause) → Live F n D → Passes F C [] D
+    passes D q = follows (broken q (λ k m. given (map-in complement (Memᴰ·append-right C (among D q k m)))))
 
 -- 5. What the facts do not say, worked by hand.
 -- V=3, 1:[-1 2], 2:[3]
