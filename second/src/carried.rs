@@ -1,7 +1,8 @@
 //! Demand 3 by brute force, over the steps that a checker's line says it has taken: the line is believed, and what it promises is tried.
 
 use crate::files::{self, Kind};
-use crate::judge::State;
+use crate::judge::{Answer, State};
+use crate::pack;
 use crate::rules::Clauses;
 use crate::stowage::{all, meets, moved, Stowage};
 use std::collections::BTreeMap;
@@ -24,18 +25,16 @@ pub struct Tally {
 
 /// How many steps a line says were taken, and whether it says refuted; nothing of a line that refuses the formula or the call.
 fn taken(line: &str) -> Result<Option<(usize, bool)>, String> {
-    let fields: Vec<&str> = line.split(' ').collect();
-    let number = |field: &str| field.parse::<usize>().map_err(|_| format!("line {line}"));
-    match fields[..] {
-        ["refuted", "0", steps, "0"] => Ok(Some((number(steps)?, true))),
-        ["held", "0", steps, "0"] => Ok(Some((number(steps)?, false))),
-        ["refused", _, step, _] => Ok(number(step)?.checked_sub(1).map(|steps| (steps, false))),
-        _ => Err(format!("line {line}")),
-    }
+    let answer = pack::answer(line).ok_or_else(|| format!("line {line}"))?;
+    Ok(match answer {
+        Answer::Refuted(steps) => Some((steps, true)),
+        Answer::Held(steps) => Some((steps, false)),
+        Answer::Refused { step, .. } => step.checked_sub(1).map(|steps| (steps, false)),
+    })
 }
 
 /// The step at the reading place, taken with no condition tried.
-fn take(state: &mut State, proof: &[u8]) -> Result<files::Step, String> {
+pub fn take(state: &mut State, proof: &[u8]) -> Result<files::Step, String> {
     let step = files::step(proof, state.at, state.v, &state.live, state.next)
         .map_err(|f| format!("step {} is taken, yet {f:?}", state.taken + 1))?;
     state.enter(&step);

@@ -4,6 +4,7 @@ mod carried;
 mod cases;
 mod damage;
 mod deletions;
+mod facts;
 mod faults;
 mod files;
 mod judge;
@@ -28,8 +29,9 @@ use std::process::ExitCode;
 const USAGE: &str = "second answer FORMULA PROOF
 second cases [OUTDIR]
 second pack stored|systematic|bytes|deletions|pigeons|large OUTDIR
-second pack random|valid SEED COUNT OUTDIR
+second pack random|valid|facts SEED COUNT OUTDIR
 second stowages FILE.pack FILE.lines
+second facts FILE.pack FILE.lines
 second counts FILE.lines...
 second pigeon N FORMULA PROOF";
 
@@ -41,15 +43,18 @@ fn main() -> ExitCode {
         ["cases"] => hand_cases(),
         ["cases", folder] => hand_cases().and_then(|()| hand_files(Path::new(folder))),
         ["pack", name, folder] => fixed(name).and_then(|cases| pack(folder, name, &cases)),
-        ["pack", name @ ("random" | "valid"), seed, count, folder] => numbers(seed, count)
-            .and_then(|(seed, count)| {
+        ["pack", name @ ("random" | "valid" | "facts"), seed, count, folder] => {
+            numbers(seed, count).and_then(|(seed, count)| {
                 let cases = match name {
                     "random" => random::cases(seed, count),
+                    "facts" => facts::cases(seed, count),
                     _ => random::valid_cases(seed, count),
                 };
                 pack(folder, &format!("{name}-{seed}"), &cases)
-            }),
+            })
+        }
         ["stowages", pack, lines] => stowages(pack, lines),
+        ["facts", pack, lines] => two_facts(pack, lines),
         ["counts", ref files @ ..] if !files.is_empty() => counts(files),
         ["pigeon", n, formula, proof] => pigeons(n, formula, proof),
         _ => Err(USAGE.to_string()),
@@ -136,17 +141,23 @@ fn pack(folder: &str, name: &str, cases: &[pack::Case]) -> Done {
     Ok(())
 }
 
-/// Demand 3 over a pack, with the lines that a checker gave for it.
-fn stowages(pack: &str, lines: &str) -> Done {
+/// A pack, and the lines that a checker gave for it.
+fn said(pack: &str, lines: &str) -> Result<(Vec<pack::Case>, Vec<String>), String> {
     let bytes = std::fs::read(pack).map_err(|error| error.to_string())?;
     let cases = pack::read(&bytes).ok_or("a pack that is cut short")?;
     let lines = std::fs::read_to_string(lines).map_err(|error| error.to_string())?;
-    let lines: Vec<&str> = lines.lines().collect();
+    let lines: Vec<String> = lines.lines().map(String::from).collect();
     if lines.len() != cases.len() {
         return Err(format!("{} lines, {} cases", lines.len(), cases.len()));
     }
+    Ok((cases, lines))
+}
+
+/// Demand 3 over a pack, with the lines that a checker gave for it.
+fn stowages(pack: &str, lines: &str) -> Done {
+    let (cases, lines) = said(pack, lines)?;
     let mut tally = carried::Tally::default();
-    for (index, (case, line)) in cases.iter().zip(lines).enumerate() {
+    for (index, (case, line)) in cases.iter().zip(&lines).enumerate() {
         let (formula, proof) = (&case.formula, &case.proof);
         carried::check(formula, proof, line, &mut tally).map_err(|message| {
             format!("case {index}: {message}\nformula {formula:02x?}\nproof {proof:02x?}")
@@ -161,6 +172,28 @@ fn stowages(pack: &str, lines: &str) -> Done {
     println!("steps that moved a stowage {:?}", tally.moving);
     println!("stowages carried {} moved {}", tally.carried, tally.moved);
     Ok(())
+}
+
+/// The two facts of 02, §13 over a pack of groups, with the lines that a checker gave for it.
+fn two_facts(pack: &str, lines: &str) -> Done {
+    let (cases, lines) = said(pack, lines)?;
+    let lines: Vec<&str> = lines.iter().map(String::as_str).collect();
+    if !cases.len().is_multiple_of(facts::SIZE) {
+        return Err(format!("{} cases, which are no groups", cases.len()));
+    }
+    let mut tally = facts::Tally::default();
+    let groups = cases.chunks(facts::SIZE).zip(lines.chunks(facts::SIZE));
+    for (index, (group, lines)) in groups.enumerate() {
+        facts::check(group, lines, &mut tally)
+            .map_err(|message| format!("group {index}: {message}"))?;
+    }
+    for (name, count) in tally.counts() {
+        println!("{name}: {count}");
+    }
+    match tally.counts().iter().find(|(_, count)| *count == 0) {
+        Some((name, _)) => Err(format!("never tried: {name}")),
+        None => Ok(()),
+    }
 }
 
 fn counts(files: &[&str]) -> Done {

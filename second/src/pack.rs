@@ -70,6 +70,26 @@ pub fn read(mut pack: &[u8]) -> Option<Vec<Case>> {
     Some(cases)
 }
 
+/// The answer that a line says; none of a line that is no answer.
+pub fn answer(line: &str) -> Option<Answer> {
+    let fields: Vec<&str> = line.split(' ').collect();
+    let [verdict, reason, step, place] = fields[..] else {
+        return None;
+    };
+    let steps = step.parse().ok()?;
+    let answer = match verdict {
+        "refuted" => Answer::Refuted(steps),
+        "held" => Answer::Held(steps),
+        _ => Answer::Refused {
+            reason: reason.parse().ok()?,
+            step: steps,
+            place: place.parse().ok()?,
+        },
+    };
+    // Only the answer's own line says it: no other word, sign or leading zero does.
+    Some(answer).filter(|answer| answer.line() == line)
+}
+
 /// How often each verdict and each reason comes up: keys "held", "refuted", "refused 1" and so on.
 pub fn counts(lines: &str) -> BTreeMap<String, usize> {
     let mut counts = BTreeMap::new();

@@ -42,7 +42,7 @@ impl Random {
         self.between(1, v as usize) as u32
     }
 
-    fn literal(&mut self, v: u32) -> u32 {
+    pub fn literal(&mut self, v: u32) -> u32 {
         2 * self.variable(v) + self.below(2) as u32
     }
 
@@ -63,7 +63,7 @@ impl Random {
 }
 
 /// A witness: a literal of C set, a swap with signs, the formula's symmetry, constants, a rotation, or any atoms.
-fn witness(random: &mut Random, v: u32, clause: &[u32], symmetry: &Pairs) -> Pairs {
+pub fn witness(random: &mut Random, v: u32, clause: &[u32], symmetry: &Pairs) -> Pairs {
     if v == 0 {
         return Vec::new();
     }
@@ -95,13 +95,13 @@ fn witness(random: &mut Random, v: u32, clause: &[u32], symmetry: &Pairs) -> Pai
     pairs
 }
 
-fn some_of(random: &mut Random, numbers: &[u32], percent: usize) -> BTreeSet<u32> {
+pub fn some_of(random: &mut Random, numbers: &[u32], percent: usize) -> BTreeSet<u32> {
     let kept = numbers.iter().copied().filter(|_| random.chance(percent));
     kept.collect()
 }
 
 /// Codes of a new clause: any, or a live clause with one literal fewer, which is often close to being taken.
-fn new_clause(random: &mut Random, state: &State, live: &[u32]) -> Vec<u32> {
+pub fn new_clause(random: &mut Random, state: &State, live: &[u32]) -> Vec<u32> {
     if random.chance(1) {
         return Vec::new();
     }
@@ -117,8 +117,14 @@ fn new_clause(random: &mut Random, state: &State, live: &[u32]) -> Vec<u32> {
     random.clause(state.v, most)
 }
 
+/// The live clauses that don't pass.
+pub fn failing(state: &State, s: &Witness, c: &Clause) -> BTreeSet<u32> {
+    let fails = |number: &u32| !passes(&state.live[number], s, c, &state.live);
+    state.live.keys().copied().filter(fails).collect()
+}
+
 /// One proposed step, well formed, that may or may not be taken.
-fn proposal(random: &mut Random, state: &State, symmetry: &Pairs) -> Vec<u8> {
+pub fn proposal(random: &mut Random, state: &State, symmetry: &Pairs) -> Vec<u8> {
     let live: Vec<u32> = state.live.keys().copied().collect();
     let mut clause = new_clause(random, state, &live);
     let kind = random.below(20);
@@ -149,10 +155,9 @@ fn proposal(random: &mut Random, state: &State, symmetry: &Pairs) -> Vec<u8> {
         }
         return writer::sr(&clause, &pairs);
     }
-    let failing = |number: &u32| !passes(&state.live[number], &s, &c, &state.live);
     let mut modulo: BTreeSet<u32> = match random.below(5) {
         0..=2 => BTreeSet::new(),
-        _ => live.iter().copied().filter(failing).collect(),
+        _ => failing(state, &s, &c),
     };
     if random.chance(25) {
         modulo.extend(some_of(random, &live, 15));
@@ -162,7 +167,20 @@ fn proposal(random: &mut Random, state: &State, symmetry: &Pairs) -> Vec<u8> {
 }
 
 /// A valid formula and a proof whose steps are taken, sometimes with a last one that isn't.
+pub struct Valid {
+    pub formula: Vec<u8>,
+    pub proof: Vec<u8>,
+    /// After the steps that are taken, which end at its reading place.
+    pub state: State,
+    pub symmetry: Pairs,
+}
+
 pub fn valid(random: &mut Random) -> (Vec<u8>, Vec<u8>) {
+    let valid = valid_with_state(random);
+    (valid.formula, valid.proof)
+}
+
+pub fn valid_with_state(random: &mut Random) -> Valid {
     let seed = seed_formula(random);
     let formula = formula_of_codes(seed.v, &seed.clauses);
     let mut state = State::start(&formula).expect("seed formulas are valid");
@@ -179,7 +197,12 @@ pub fn valid(random: &mut Random) -> (Vec<u8>, Vec<u8>) {
             break;
         }
     }
-    (formula, proof)
+    Valid {
+        formula,
+        proof,
+        state,
+        symmetry: seed.symmetry,
+    }
 }
 
 pub fn valid_cases(seed: u64, count: usize) -> Vec<Case> {

@@ -1,14 +1,15 @@
-//! Few tests: the paper's cases, its two moved stowages, its five errors that look like the rule, pigeonholes.
+//! Few tests: the paper's cases, its two moved stowages, its five errors that look like the rule, pigeonholes, the two facts of 02, §13.
 
 use crate::cases::cases;
 use crate::judge::{judge, Answer, State, BYTES, WORDS};
+use crate::pack::Case;
 use crate::rules::{
-    complement, image, least_set, passes, rup, rup_step, trivialises, Clause, Clauses, Witness,
-    TRUE,
+    complement, image, least_set, passes, rup, rup_step, trivialises, wsr_step, Clause, Clauses,
+    Failure, Witness, TRUE,
 };
 use crate::stowage::{all, meets, moved, Stowage};
 use crate::writer::{self, code, codes, delete};
-use crate::{carried, pigeon, random};
+use crate::{carried, facts, pigeon, random};
 
 fn line(formula: &[u8], proof: &[u8]) -> String {
     judge(formula, proof, WORDS, BYTES).line()
@@ -194,4 +195,107 @@ fn steps_wrongly_taken_are_seen() {
         assert_eq!(check(case.line), Ok(()), "{}", case.name);
         assert!(check(&format!("{wrong} 0 1 0")).is_err(), "{}", case.name);
     }
+}
+
+/// 1:[-1 2], 2:[3]; the clause with 1 sent to true, modulo 1, or 1 and 2, or 2; then RUP [3].
+fn group_of(literals: &[i32]) -> Vec<Case> {
+    let parts = facts::Parts {
+        clause: codes(literals),
+        witness: vec![(1, TRUE)],
+        lists: [[1].into(), [1, 2].into(), [2].into()],
+    };
+    let formula = writer::formula(3, &[&[-1, 2], &[3]]);
+    facts::group(&formula, &[], &parts, &writer::rup(&codes(&[3])))
+}
+
+#[test]
+fn broken_facts_are_seen() {
+    let not_rup = "held 0 2 0,refused 13 2 0,refused 15 1 1,refused 15 1 3,refused 13 1 0";
+    let is_rup = ["held 0 2 0"; facts::SIZE].join(",");
+    let (one, three): (&[i32], &[i32]) = (&[1], &[3]);
+    let wrong = [
+        (one, not_rup, 1, "refused 15 1 2", "fact 1"),
+        (three, &is_rup, 1, "refused 15 1 2", "fact 1"),
+        (one, not_rup, 3, "held 0 2 0", "fact 2"),
+        (one, not_rup, 4, "refused 13 2 0", "fact 2"),
+        (three, &is_rup, 3, "refused 15 1 3", "fact 2"),
+        (three, &is_rup, 4, "refused 13 1 0", "fact 2"),
+        (three, &is_rup, 4, "refused 13 2 0", "what follows"),
+        (three, &is_rup, 3, "refuted 0 2 0", "what follows"),
+        (one, not_rup, 3, "refused 15 1 2", "C would get 3"),
+        (one, not_rup, 3, "refused 13 1 0", "not by its condition"),
+        (one, not_rup, 4, "refused 13 1 1", "not by its condition"),
+        (one, not_rup, 4, "held 0 0 0", "ends before"),
+        (one, not_rup, 4, "held 0 2 0 memory", "not an answer"),
+    ];
+    for (literals, right, index, line, message) in wrong {
+        let group = group_of(literals);
+        let mut lines: Vec<&str> = right.split(',').collect();
+        let own: Vec<String> = group.iter().map(|case| case.answer().line()).collect();
+        assert_eq!(own, lines);
+        let check = |lines: &[&str]| facts::check(&group, lines, &mut facts::Tally::default());
+        assert_eq!(check(&lines), Ok(()));
+        lines[index] = line;
+        let told = check(&lines).expect_err(line);
+        assert!(told.contains(message) && told.contains("\nformula [01, 00, 04, "));
+        assert_eq!(told.matches("\nproof [1").count(), 2, "{told}");
+    }
+}
+
+#[test]
+fn groups_that_are_none_are_seen() {
+    // Each two of a group exchanged, and a group whose cases differ in a second step.
+    let lines = ["held 0 2 0"; facts::SIZE];
+    let seen = |group: &[Case]| facts::check(group, &lines, &mut facts::Tally::default());
+    for (a, b) in [(0, 1), (0, 4), (1, 2), (2, 3), (3, 4)] {
+        let mut group = group_of(&[3]);
+        group.swap(a, b);
+        assert!(seen(&group).is_err_and(|told| told.starts_with("not a group")));
+    }
+    let mut group = group_of(&[3]);
+    group[1].proof.extend(writer::rup(&codes(&[3])));
+    assert!(seen(&group).is_err_and(|told| told.starts_with("not a group")));
+}
+
+#[test]
+fn random_groups_keep_both_facts() {
+    let mut tally = facts::Tally::default();
+    for group in facts::cases(2, 500).chunks(facts::SIZE) {
+        let lines: Vec<String> = group.iter().map(|case| case.answer().line()).collect();
+        let lines: Vec<&str> = lines.iter().map(String::as_str).collect();
+        assert_eq!(facts::check(group, &lines, &mut tally), Ok(()));
+    }
+    assert!(tally.counts().iter().all(|(_, count)| *count > 0));
+}
+
+#[test]
+fn wsr_with_nothing_is_rup() {
+    // "passes its conditions exactly when the RUP step of the same clause does" (02, §13), also of clauses with a variable twice
+    let mut random = random::Random(1);
+    let nothing = Witness::new();
+    let (mut taken, mut refused, mut twice) = (0, 0, 0);
+    for _ in 0..20_000 {
+        let v = random.between(1, 5) as u32;
+        let mut any = |most: usize| -> Vec<Clause> {
+            let count = random.below(most + 1);
+            let mut clause = || (0..random.below(5)).map(|_| random.literal(v)).collect();
+            (0..count).map(|_| clause()).collect()
+        };
+        let f: Clauses = (1..).zip(any(7)).collect();
+        for c in any(1) {
+            let as_wsr = wsr_step(&c, &nothing, &[], &f, f.len() as u32 + 1);
+            assert_eq!(as_wsr.is_ok(), rup_step(&c, &f).is_ok(), "{c:?} over {f:?}");
+            *(if as_wsr.is_ok() {
+                &mut taken
+            } else {
+                &mut refused
+            }) += 1;
+            twice += usize::from(trivialises(&nothing, &c));
+        }
+    }
+    assert!(taken > 1_000 && refused > 1_000 && twice > 1_000);
+    // The code 0 in C breaks it, with no live clause and no other code: every witness trivialises C, and propagation has no clash.
+    let (c, f) = (Clause::from([TRUE]), Clauses::new());
+    assert_eq!(wsr_step(&c, &nothing, &[], &f, 1), Ok(()));
+    assert_eq!(rup_step(&c, &f), Err(Failure::Rup));
 }
