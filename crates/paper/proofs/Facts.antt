@@ -10,17 +10,17 @@ use native.Mathlib.Omega.{arith}
 use lib.Dec.{eqb}
 use Rattle.paper.specs.declared.Reason.{Reason}
 use Rattle.paper.specs.declared.Reason.the-variants.{NotRup, NotPassing}
-use Rattle.paper.specs.declared.Verdict.the-variants.{Refuted, Held}
+use Rattle.paper.specs.declared.Verdict.the-variants.{Refuted}
 use Rattle.paper.specs.Atoms.{complement, _∈_, Clause, Formula, Live, Witness}
-use Rattle.paper.specs.Files.{RUP-step, WSR-step}
+use Rattle.paper.specs.Files.{File, RUP-step, WSR-step}
 use Rattle.paper.specs.Conditions.{look, image, Derived, given, unit, Clash, both, broken, RUP, Trivialises, to-true, to-complements, under, Passes, follows, after}
-use Rattle.paper.specs.Answers.{taken, stops, Judged, refused, Answer}
+use Rattle.paper.specs.Answers.{taken, stops, Judged, not-rup, wsr-lowest, wsr-new, refused, Answer}
 use Rattle.paper.specs.Valid.{Valid, Seen}
 use Rattle.paper.proofs.Lists.{complement-even, eqb-yes, eqb-no, map-out, map-in, under-in, under-out}
-use Rattle.paper.proofs.Sides.{image-variable, derived-least, passes-exactly, Asks, only-taken, always-taken, lowest-wsr}
-use Rattle.paper.proofs.Cases.{Case, case, F4, one-to-T, modulo-none, answer-of, cases-right}
+use Rattle.paper.proofs.Sides.{image-variable, derived-least, rup-live, passes-exactly, Asks, only-taken, always-taken, lowest-wsr}
+use Rattle.paper.proofs.Cases.{Case, case, modulo-none, answer-of, cases-right}
 
--- 1. "a WSR step that is taken with one MODULO list is also taken with any longer list of live numbers that holds it"
+-- 1. The first: "a WSR step that is taken with one MODULO list is also taken with any longer list of live numbers that holds it".
 -- Nothing that the reading has seen is needed: the conditions ask less of a longer list, whatever it holds.
 pub longer-taken : {F G : Formula} {next m : ℕ} {C : Clause} {s : Witness} (modulo longer : List ℕ) → ((n : ℕ) → n ∈ modulo → n ∈ longer)
     → Judged F next (WSR-step C s modulo) (taken G m) → Judged F next (WSR-step C s longer) (taken (after longer next C F) (suc next))
@@ -28,7 +28,7 @@ longer-taken {F} {next} {C} {s} modulo longer holds j =
     let asked = (only-taken j) .0 in
     always-taken F next (WSR-step C s longer) (asked .0, λ n D q out. asked .1 n D q (λ named. out (holds n named)))
 
--- 2. Propagation from more literals clashes too, so a clause that is RUP passes whatever the witness.
+-- 2. Towards the second. Propagation from more literals clashes too: where C is RUP every clause passes, whatever the witness.
 module _ (F : Formula) {A B : List ℕ} (more : (l : ℕ) → l ∈ A → l ∈ B) where
   derived-more : {l : ℕ} → Derived F A l → Derived F B l
   derived-more = derived-least F A (Derived F B) (record { holds = λ l m. given (more l m); closed = λ n D l q m fellows. unit q m fellows })
@@ -74,9 +74,9 @@ image-itself a = go (eqb (a % 2) 0) refl
 under-itself : (D : Clause) (l : ℕ) → l ∈ under [] D → l ∈ D
 under-itself D l m = let q = under-out [] D m in subst (λ (k : ℕ). k ∈ D) (sym (q .2 ∙ image-itself (q .0))) (q .1)
 
--- 4. "A WSR step with an empty witness and empty MODULO passes its conditions exactly when the RUP step of the same clause does, as
--- corollary 9 says." Of what the reading has seen of C this is needed: that no literal of it is true; a variable might stand in it twice.
-module _ (F : Formula) (C : Clause) (literals : (l : ℕ) → l ∈ C → 2 ≤ l) where
+-- 4. The second: "A WSR step with an empty witness and empty MODULO passes its conditions exactly when the RUP step of the same clause
+-- does, as corollary 9 says." Of what the reading has seen of C this is needed: true is none of its literals. A variable might stand in it twice.
+module _ (F : Formula) (C : Clause) (literals : (l : ℕ) → l ∈ C → 1 ≤ l) where
   trivial-rup : Trivialises [] C → RUP F C
   trivial-rup (to-true {l} m e) = absurd (omega (arith, literals l m, sym (image-itself l) ∙ e))
   trivial-rup (to-complements {l} {k} m q e) =
@@ -112,51 +112,62 @@ empty-as-rup vars F next C seen G m = (there, back)
     back : Judged F next (RUP-step C) (taken G m) → Judged F next (WSR-step C [] []) (taken G m)
     back j = let t = only-taken j in subst (Judged F next (WSR-step C [] [])) (sym (t .1)) (always-taken F next (WSR-step C [] []) (asked .1 (t .0)))
 
--- Where a step with an empty witness is refused, reason 15 names its own clause: a live one is its own image, and passes.
+wsr-reason : {F : Formula} {next : ℕ} {C : Clause} {s : Witness} {modulo : List ℕ} {r : Reason} {n : ℕ} → Judged F next (WSR-step C s modulo) (stops r n)
+    → r ≡ NotPassing
+wsr-reason (wsr-lowest l) = refl
+wsr-reason (wsr-new old new) = refl
+
+-- Where a step with an empty witness is refused, it is for reason 15 at its own clause, since a live one is its own image and passes; and
+-- the RUP step of that clause is refused too.
 pub empty-refused : (vars : ℕ) (F : Formula) (next : ℕ) (C : Clause) (modulo : List ℕ) → Valid vars F → (r : Reason) (n : ℕ)
-    → Judged F next (WSR-step C [] modulo) (stops r n) → n ≡ next
-empty-refused vars F next C modulo valid r n j = ⊎-elim (λ q. absurd (q .3 (passes (q .0) (q .1)))) (λ q. q .0) ((lowest-wsr j) .0)
+    → Judged F next (WSR-step C [] modulo) (stops r n) → (r ≡ NotPassing) × (n ≡ next) × Judged F next (RUP-step C) (stops NotRup 0)
+empty-refused vars F next C modulo valid r n j = (wsr-reason j, own .0, not-rup (λ q. own .1 (rup-passes F C [] C q)))
   where
-    among : (D : Clause) → Live F n D → (k : ℕ) → k ∈ D → k ∈ under [] D
+    among : (D : Clause) → Live F n D → (k : ℕ) → k ∈ D → k ∈ C ++ under [] D
     among D q k m =
-        subst (λ (x : ℕ). x ∈ under [] D) (image-itself k)
-        (under-in [] D m (λ e. absurd (omega (arith, valid .codes n D q k m, sym (image-itself k) ∙ e))))
+        Memᴰ·append-right C (subst (λ (x : ℕ). x ∈ under [] D) (image-itself k)
+        (under-in [] D m (λ e. absurd (omega (arith, valid .codes n D q k m, sym (image-itself k) ∙ e)))))
 
     passes : (D : Clause) → Live F n D → Passes F C [] D
-    passes D q = follows (broken q (λ k m. given (map-in complement (Memᴰ·append-right C (among D q k m)))))
+    passes D q = follows (rup-more F D (C ++ under [] D) (among D q) (rup-live F n D q))
 
--- 5. What the facts do not say, worked by hand.
--- V=3, 1:[-1 2], 2:[3]
-abbrev F5 : List ℕ
-F5 = 0x01 ∷ 0 ∷ 4 ∷ 0 ∷ 3 ∷ 0 ∷ 2 ∷ 0x02 ∷ 0 ∷ 4 ∷ 0 ∷ 3 ∷ 0 ∷ 4 ∷ 0x02 ∷ 0 ∷ 2 ∷ 0 ∷ 6 ∷ []
+    own : (n ≡ next) × (¬ (Passes F C [] C))
+    own = ⊎-elim (λ q. absurd (q .3 (passes (q .0) (q .1)))) (λ q. q) ((lowest-wsr j) .0)
 
--- WSR [1], 1 to T; and RUP [3] behind it
-abbrev one : List ℕ
-one = (0x13 ∷ 0 ∷ 2 ∷ 0 ∷ 2 ∷ []) ++ one-to-T
+-- 5. Both facts, and what they do not say, worked by hand over V=4, 1:[1 2], 2:[1 -2], 3:[-1 2], 4:[-1 -2], 5:[-3 4].
+abbrev deck : File
+deck =
+    (0x01 ∷ 0 ∷ 4 ∷ 0 ∷ 4 ∷ 0 ∷ 5 ∷ 0x02 ∷ 0 ∷ 4 ∷ 0 ∷ 2 ∷ 0 ∷ 4 ∷ 0x02 ∷ 0 ∷ 4 ∷ 0 ∷ 2 ∷ 0 ∷ 5 ∷ [])
+    ++ (0x02 ∷ 0 ∷ 4 ∷ 0 ∷ 3 ∷ 0 ∷ 4 ∷ 0x02 ∷ 0 ∷ 4 ∷ 0 ∷ 3 ∷ 0 ∷ 5 ∷ 0x02 ∷ 0 ∷ 4 ∷ 0 ∷ 7 ∷ 0 ∷ 8 ∷ [])
 
-abbrev three : List ℕ
-three = 0x11 ∷ 0 ∷ 2 ∷ 0 ∷ 6 ∷ []
+-- three steps: WSR [3], 3 to T, with a MODULO; a step with the clause [1]; RUP []
+abbrev steps : File → File → File
+steps modulo second = (0x13 ∷ 0 ∷ 2 ∷ 0 ∷ 6 ∷ 0x21 ∷ 0 ∷ 4 ∷ 0 ∷ 3 ∷ 0 ∷ 0 ∷ []) ++ modulo ++ second ++ (0x11 ∷ 0 ∷ 0 ∷ [])
 
--- WSR [-2], no mapping; and RUP [] behind it
-abbrev minus-two : List ℕ
-minus-two = 0x13 ∷ 0 ∷ 2 ∷ 0 ∷ 5 ∷ 0x21 ∷ 0 ∷ 0 ∷ []
+-- WSR [1], no mapping, with a MODULO
+abbrev unmapped : File → File
+unmapped modulo = (0x13 ∷ 0 ∷ 2 ∷ 0 ∷ 2 ∷ 0x21 ∷ 0 ∷ 0 ∷ []) ++ modulo
 
-abbrev empty : List ℕ
-empty = 0x11 ∷ 0 ∷ 0 ∷ []
+-- RUP [1]
+abbrev as-rup : File
+as-rup = 0x11 ∷ 0 ∷ 2 ∷ 0 ∷ 2 ∷ []
+
+abbrev modulo-one : ℕ → File
+modulo-one n = 0x22 ∷ 0 ∷ 2 ∷ 0 ∷ n ∷ []
 
 abbrev pub facts : List Case
 facts =
-    -- modulo 1: taken, and the step behind it too
-    case F5 (one ++ (0x22 ∷ 0 ∷ 2 ∷ 0 ∷ 1 ∷ []) ++ three) (Held 2)
-    -- modulo 1, 2: taken, but a later step misses clause 2
-    ∷ case F5 (one ++ (0x22 ∷ 0 ∷ 4 ∷ 0 ∷ 1 ∷ 0 ∷ 2 ∷ []) ++ three) (refused NotRup 2 0)
-    -- modulo 2, which does not hold the first list
-    ∷ case F5 (one ++ (0x22 ∷ 0 ∷ 2 ∷ 0 ∷ 2 ∷ []) ++ three) (refused NotPassing 1 1)
-    -- RUP [-2], and WSR [-2] with no mapping, modulo none: the same follows
-    ∷ case F4 ((0x11 ∷ 0 ∷ 2 ∷ 0 ∷ 5 ∷ []) ++ empty) (Refuted 2)
-    ∷ case F4 (minus-two ++ modulo-none ++ empty) (Refuted 2)
-    -- modulo 2: taken, but a later step misses clause 2
-    ∷ case F4 (minus-two ++ (0x22 ∷ 0 ∷ 2 ∷ 0 ∷ 2 ∷ []) ++ empty) (refused NotRup 2 0)
+    -- step 1 modulo 5: taken, and the steps behind it too, step 2 as WSR with no mapping, modulo none, and as RUP
+    case deck (steps (modulo-one 5) (unmapped modulo-none)) (Refuted 3)
+    ∷ case deck (steps (modulo-one 5) as-rup) (Refuted 3)
+    -- step 1 modulo 1, 5: taken, but step 2 misses clause 1, either way
+    ∷ case deck (steps (0x22 ∷ 0 ∷ 4 ∷ 0 ∷ 1 ∷ 0 ∷ 5 ∷ []) (unmapped modulo-none)) (refused NotPassing 2 7)
+    ∷ case deck (steps (0x22 ∷ 0 ∷ 4 ∷ 0 ∷ 1 ∷ 0 ∷ 5 ∷ []) as-rup) (refused NotRup 2 0)
+    -- step 1 modulo none, and modulo 1: lists that do not hold the first
+    ∷ case deck (steps modulo-none (unmapped modulo-none)) (refused NotPassing 1 5)
+    ∷ case deck (steps (modulo-one 1) (unmapped modulo-none)) (refused NotPassing 1 5)
+    -- step 2 with no mapping, modulo 3: taken as RUP is, but step 3 misses clause 3
+    ∷ case deck (steps (modulo-one 5) (unmapped (modulo-one 3))) (refused NotRup 3 0)
     ∷ []
 
 computed : map answer-of facts ≡ map (λ (c : Case). c .says) facts
