@@ -1,23 +1,12 @@
-//! "Two facts for the manual" (02, §13): groups of random cases that differ in one step, and both facts held on the lines that a checker
-//! gave for them: the lines are believed.
+//! "Two facts for the manual" (02, §13), held on a group of cases and the lines that a checker gave for it: the lines are believed.
 
 use crate::carried::take;
 use crate::files::{self, Fault, Kind, Step};
+use crate::groups::{EMPTY, FIRST, LONGER, OTHER, RUP, SIZE};
 use crate::judge::{Answer, State};
 use crate::pack::{self, Case};
-use crate::random::{self, failing, new_clause, proposal, some_of, Random, Valid};
-use crate::rules::{passes, rup, Clause, Witness};
-use crate::seeds::Pairs;
-use crate::writer;
-use std::collections::BTreeSet;
 
-/// The cases of a group in their order: WSR with three MODULO lists, WSR with an empty witness and empty MODULO, RUP.
-const FIRST: usize = 0;
-const LONGER: usize = 1;
-const OTHER: usize = 2;
-const EMPTY: usize = 3;
-const RUP: usize = 4;
-pub const SIZE: usize = 5;
+/// What each case is called where it is shown.
 const NAMES: [&str; SIZE] = [
     "WSR with the first list",
     "WSR with the longer list",
@@ -27,151 +16,6 @@ const NAMES: [&str; SIZE] = [
 ];
 /// The case that each is shown beside where its line is wrong by itself.
 const BESIDE: [usize; SIZE] = [LONGER, FIRST, FIRST, RUP, EMPTY];
-
-pub type List = BTreeSet<u32>;
-
-/// The parts of the one step in which the cases of a group differ.
-pub struct Parts {
-    pub clause: Vec<u32>,
-    pub witness: Pairs,
-    pub lists: [List; 3],
-}
-
-/// A group: the formula, the steps before and the steps after are shared.
-pub fn group(formula: &[u8], before: &[u8], parts: &Parts, later: &[u8]) -> Vec<Case> {
-    let clause = &parts.clause;
-    let with = |list: &List| {
-        let numbers: Vec<u32> = list.iter().copied().collect();
-        writer::wsr(clause, &parts.witness, &numbers)
-    };
-    let mut steps: Vec<Vec<u8>> = parts.lists.iter().map(with).collect();
-    steps.extend([writer::wsr(clause, &[], &[]), writer::rup(clause)]);
-    let case = |step: Vec<u8>| Case::new(formula.to_vec(), [before, &step, later].concat());
-    steps.into_iter().map(case).collect()
-}
-
-pub fn cases(seed: u64, count: usize) -> Vec<Case> {
-    let mut random = Random(seed);
-    let mut cases = Vec::new();
-    while cases.len() < SIZE * count {
-        cases.extend(random_group(&mut random).unwrap_or_default());
-    }
-    cases
-}
-
-/// None where no list is longer than the first.
-fn random_group(random: &mut Random) -> Option<Vec<Case>> {
-    let valid = random::valid_with_state(random);
-    let live: Vec<u32> = valid.state.live.keys().copied().collect();
-    let clause = rup_or_not(random, &valid.state, &live);
-    let (witness, mut needed) = telling_witness(random, &valid, &clause);
-    // With a clause that is RUP every clause passes, and the list may as well be any.
-    if needed.is_empty() && random.chance(50) {
-        needed = some_of(random, &live, 30);
-    }
-    let lists = three_lists(random, &live, &needed)?;
-    let parts = Parts {
-        clause,
-        witness,
-        lists,
-    };
-    let later = later(random, &valid, &parts);
-    let before = &valid.proof[..valid.state.at];
-    Some(group(&valid.formula, before, &parts, &later))
-}
-
-fn set(codes: &[u32]) -> Clause {
-    codes.iter().copied().collect()
-}
-
-/// Codes of a new clause, about as often RUP as not: where propagation from nothing clashes every clause is, so it is wanted less often.
-fn rup_or_not(random: &mut Random, state: &State, live: &[u32]) -> Vec<u32> {
-    let wanted = random.chance(42);
-    let mut clause = new_clause(random, state, live);
-    for _ in 0..20 {
-        if rup(&set(&clause), &state.live) != wanted {
-            clause = new_clause(random, state, live);
-        }
-    }
-    clause
-}
-
-/// A witness and the clauses that don't pass with it, preferably some, and C not among them.
-fn telling_witness(random: &mut Random, valid: &Valid, clause: &[u32]) -> (Pairs, List) {
-    let (state, c) = (&valid.state, set(clause));
-    let mut tries = random.of(&[1, 4, 12]);
-    loop {
-        let pairs = random::witness(random, state.v, clause, &valid.symmetry);
-        let s: Witness = pairs.iter().copied().collect();
-        let needed = failing(state, &s, &c);
-        tries -= 1;
-        if tries == 0 || !needed.is_empty() && passes(&c, &s, &c, &state.live) {
-            return (pairs, needed);
-        }
-    }
-}
-
-/// The first list is what is needed, less, or empty; the longer one holds it; the other one doesn't, or is a second longer one where the
-/// first is empty, since every list holds that.
-fn three_lists(random: &mut Random, live: &[u32], needed: &List) -> Option<[List; 3]> {
-    let all_needed: Vec<u32> = needed.iter().copied().collect();
-    let first: List = match random.below(10) {
-        0..=5 => needed.clone(),
-        6..=8 => some_of(random, &all_needed, 60),
-        _ => List::new(),
-    };
-    let beyond: Vec<u32> = live
-        .iter()
-        .copied()
-        .filter(|n| !first.contains(n))
-        .collect();
-    if beyond.is_empty() {
-        return None;
-    }
-    let percent = random.of(&[0, 10, 40]);
-    let mut longer = &first | &some_of(random, live, percent);
-    if random.chance(60) {
-        longer.extend(needed);
-    }
-    if longer == first {
-        longer.insert(random.of(&beyond));
-    }
-    let mut other = some_of(random, live, 20);
-    if random.chance(60) {
-        other.extend(&first);
-    }
-    let members: Vec<u32> = first.iter().copied().collect();
-    if members.is_empty() {
-        other.insert(random.of(&beyond));
-    } else {
-        other.remove(&random.of(&members));
-    }
-    Some([first, longer, other])
-}
-
-/// The steps after, well formed over what is live after the RUP step: mostly clauses that only the longer list removes, as RUP steps.
-fn later(random: &mut Random, valid: &Valid, parts: &Parts) -> Vec<u8> {
-    let mut state = valid.state.clone();
-    let mut proof = [&valid.proof[..state.at], &writer::rup(&parts.clause)].concat();
-    take(&mut state, &proof).expect("well formed");
-    let start = proof.len();
-    let removed: Vec<u32> = (&parts.lists[LONGER] - &parts.lists[FIRST])
-        .into_iter()
-        .collect();
-    for _ in 0..random.between(1, 3) {
-        if random.chance(75) {
-            let clause: Vec<u32> = valid.state.live[&random.of(&removed)]
-                .iter()
-                .copied()
-                .collect();
-            proof.extend(writer::rup(&clause));
-        } else {
-            proof.extend(proposal(random, &state, &valid.symmetry));
-        }
-        take(&mut state, &proof).expect("well formed");
-    }
-    proof.split_off(start)
-}
 
 /// What is wrong, and the cases that show it.
 type Wrong = (String, Vec<usize>);
@@ -204,7 +48,7 @@ fn hold(group: &[Case], lines: &[&str], tally: &mut Tally) -> Result<(), Wrong> 
     first_fact(&steps, &taken)?;
     second_fact(&answers, &taken)?;
     only_c_fails(answers[EMPTY], taken[EMPTY], before.next)?;
-    tally.count(&steps, &answers, &taken);
+    tally.count(&answers, &taken);
     Ok(())
 }
 
@@ -337,7 +181,8 @@ pub struct Tally {
 }
 
 impl Tally {
-    fn count(&mut self, steps: &[Step], answers: &[Answer], taken: &[bool]) {
+    /// Fact 1 has been held: with a list that holds the first, where the first is taken only a later step can be refused.
+    fn count(&mut self, answers: &[Answer], taken: &[bool]) {
         let refused = |index: usize| matches!(answers[index], Answer::Refused { .. });
         self.groups += 1;
         match (taken[FIRST], taken[LONGER]) {
@@ -345,12 +190,11 @@ impl Tally {
             (false, true) => self.with_the_longer += 1,
             (false, false) => self.with_neither += 1,
         }
-        let other = !holds(&steps[OTHER], &steps[FIRST]);
-        self.not_with_the_other += usize::from(other && taken[FIRST] && !taken[OTHER]);
+        self.not_with_the_other += usize::from(taken[FIRST] && !taken[OTHER]);
         self.both_taken += usize::from(taken[RUP]);
         self.both_refused += usize::from(!taken[RUP]);
         // "later steps may differ" (02, §13)
-        self.refused_later += usize::from(!refused(FIRST) && taken[LONGER] && refused(LONGER));
+        self.refused_later += usize::from(!refused(FIRST) && refused(LONGER));
     }
 
     /// Each count with its name; with a 0 among them something was never tried.

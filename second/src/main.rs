@@ -7,6 +7,7 @@ mod deletions;
 mod facts;
 mod faults;
 mod files;
+mod groups;
 mod judge;
 mod large;
 mod pack;
@@ -47,7 +48,7 @@ fn main() -> ExitCode {
             numbers(seed, count).and_then(|(seed, count)| {
                 let cases = match name {
                     "random" => random::cases(seed, count),
-                    "facts" => facts::cases(seed, count),
+                    "facts" => groups::cases(seed, count),
                     _ => random::valid_cases(seed, count),
                 };
                 pack(folder, &format!("{name}-{seed}"), &cases)
@@ -178,11 +179,11 @@ fn stowages(pack: &str, lines: &str) -> Done {
 fn two_facts(pack: &str, lines: &str) -> Done {
     let (cases, lines) = said(pack, lines)?;
     let lines: Vec<&str> = lines.iter().map(String::as_str).collect();
-    if !cases.len().is_multiple_of(facts::SIZE) {
+    if !cases.len().is_multiple_of(groups::SIZE) {
         return Err(format!("{} cases, which are no groups", cases.len()));
     }
     let mut tally = facts::Tally::default();
-    let groups = cases.chunks(facts::SIZE).zip(lines.chunks(facts::SIZE));
+    let groups = cases.chunks(groups::SIZE).zip(lines.chunks(groups::SIZE));
     for (index, (group, lines)) in groups.enumerate() {
         facts::check(group, lines, &mut tally)
             .map_err(|message| format!("group {index}: {message}"))?;

@@ -1,6 +1,7 @@
 //! Few tests: the paper's cases, its two moved stowages, its five errors that look like the rule, pigeonholes, the two facts of 02, §13.
 
 use crate::cases::cases;
+use crate::groups::{self, EMPTY, FIRST, LONGER, OTHER, RUP, SIZE};
 use crate::judge::{judge, Answer, State, BYTES, WORDS};
 use crate::pack::Case;
 use crate::rules::{
@@ -194,39 +195,52 @@ fn steps_wrongly_taken_are_seen() {
         let mut check = |line: &str| carried::check(&case.formula, &case.proof, line, &mut tally);
         assert_eq!(check(case.line), Ok(()), "{}", case.name);
         assert!(check(&format!("{wrong} 0 1 0")).is_err(), "{}", case.name);
+        // A line that is no answer.
+        assert!(check("taken 0 1 0").is_err(), "{}", case.name);
     }
 }
 
-/// 1:[-1 2], 2:[3]; the clause with 1 sent to true, modulo 1, or 1 and 2, or 2; then RUP [3].
-fn group_of(literals: &[i32]) -> Vec<Case> {
-    let parts = facts::Parts {
+/// 1:[-1 2], 2:[3], 3:[3]; the steps before; the clause with its literals sent to true, modulo 1 and 2, or 1 to 4, or 2; then RUP [3].
+fn group_after(before: &[u8], literals: &[i32]) -> Vec<Case> {
+    let parts = groups::Parts {
         clause: codes(literals),
-        witness: vec![(1, TRUE)],
-        lists: [[1].into(), [1, 2].into(), [2].into()],
+        witness: codes(literals).iter().map(|c| (c / 2, TRUE)).collect(),
+        lists: [[1, 2].into(), [1, 2, 3, 4].into(), [2].into()],
     };
-    let formula = writer::formula(3, &[&[-1, 2], &[3]]);
-    facts::group(&formula, &[], &parts, &writer::rup(&codes(&[3])))
+    // With V = 9 the tags of RUP and WSR are codes too.
+    let formula = writer::formula(9, &[&[-1, 2], &[3], &[3]]);
+    groups::group(&formula, before, &parts, &writer::rup(&codes(&[3])))
+}
+
+/// The step before is RUP [3], which gets number 4.
+fn group_of(literals: &[i32]) -> Vec<Case> {
+    group_after(&writer::rup(&codes(&[3])), literals)
 }
 
 #[test]
 fn broken_facts_are_seen() {
-    let not_rup = "held 0 2 0,refused 13 2 0,refused 15 1 1,refused 15 1 3,refused 13 1 0";
-    let is_rup = ["held 0 2 0"; facts::SIZE].join(",");
+    let not_rup = "held 0 3 0,refused 13 3 0,refused 15 2 1,refused 15 2 5,refused 13 2 0";
+    let is_rup = ["held 0 3 0"; SIZE].join(",");
     let (one, three): (&[i32], &[i32]) = (&[1], &[3]);
     let wrong = [
-        (one, not_rup, 1, "refused 15 1 2", "fact 1"),
-        (three, &is_rup, 1, "refused 15 1 2", "fact 1"),
-        (one, not_rup, 3, "held 0 2 0", "fact 2"),
-        (one, not_rup, 4, "refused 13 2 0", "fact 2"),
-        (three, &is_rup, 3, "refused 15 1 3", "fact 2"),
-        (three, &is_rup, 4, "refused 13 1 0", "fact 2"),
-        (three, &is_rup, 4, "refused 13 2 0", "what follows"),
-        (three, &is_rup, 3, "refuted 0 2 0", "what follows"),
-        (one, not_rup, 3, "refused 15 1 2", "C would get 3"),
-        (one, not_rup, 3, "refused 13 1 0", "not by its condition"),
-        (one, not_rup, 4, "refused 13 1 1", "not by its condition"),
-        (one, not_rup, 4, "held 0 0 0", "ends before"),
-        (one, not_rup, 4, "held 0 2 0 memory", "not an answer"),
+        (one, not_rup, LONGER, "refused 15 2 3", "fact 1"),
+        (three, &is_rup, LONGER, "refused 15 2 3", "fact 1"),
+        (three, &is_rup, FIRST, "refused 15 2 3", "fact 1"),
+        (one, not_rup, EMPTY, "held 0 3 0", "fact 2"),
+        (one, not_rup, RUP, "refused 13 3 0", "fact 2"),
+        (three, &is_rup, EMPTY, "refused 15 2 5", "fact 2"),
+        (three, &is_rup, RUP, "refused 13 2 0", "fact 2"),
+        (three, &is_rup, RUP, "refused 13 3 0", "what follows"),
+        (three, &is_rup, EMPTY, "refuted 0 3 0", "what follows"),
+        (one, not_rup, EMPTY, "refused 15 2 2", "C would get 5"),
+        (one, not_rup, EMPTY, "refused 13 2 0", "its condition"),
+        (one, not_rup, OTHER, "refused 14 2 1", "its condition"),
+        (one, not_rup, OTHER, "refused 15 2 0", "its condition"),
+        (one, not_rup, RUP, "refused 13 2 1", "its condition"),
+        (one, not_rup, RUP, "refused 14 2 0", "its condition"),
+        (one, not_rup, RUP, "refused 15 2 5", "its condition"),
+        (one, not_rup, RUP, "held 0 1 0", "ends before"),
+        (one, not_rup, RUP, "held 0 3 0 memory", "not an answer"),
     ];
     for (literals, right, index, line, message) in wrong {
         let group = group_of(literals);
@@ -242,30 +256,127 @@ fn broken_facts_are_seen() {
     }
 }
 
+/// The group of the clause with another step in one case.
+fn group_with(literals: &[i32], index: usize, step: &[u8]) -> Vec<Case> {
+    let three = writer::rup(&codes(&[3]));
+    let mut group = group_of(literals);
+    group[index].proof = [&three[..], step, &three].concat();
+    group
+}
+
+/// Steps with which the group of [3] is none: the one thing that is wrong, the case, the step.
+fn wrong_steps() -> [(&'static str, usize, Vec<u8>); 12] {
+    let c = codes(&[3]);
+    let wsr = |witness: &[(u32, u32)], list: &[u32]| writer::wsr(&c, witness, list);
+    let sr = |witness: &[(u32, u32)]| writer::sr(&c, witness);
+    let s = [(3, TRUE)];
+    [
+        ("longer: as long", LONGER, wsr(&s, &[1, 2])),
+        ("longer: without 2", LONGER, wsr(&s, &[1, 3, 4])),
+        ("longer: 5 isn't live", LONGER, wsr(&s, &[1, 2, 5])),
+        ("longer: witness", LONGER, wsr(&[], &[1, 2, 3, 4])),
+        ("other: holds the first", OTHER, wsr(&s, &[1, 2, 3])),
+        ("other: witness", OTHER, wsr(&[], &[2])),
+        ("nothing: witness", EMPTY, wsr(&s, &[])),
+        ("nothing: MODULO", EMPTY, wsr(&[], &[2])),
+        ("first: SR", FIRST, sr(&s)),
+        ("other: SR", OTHER, sr(&s)),
+        ("nothing: SR", EMPTY, sr(&[])),
+        ("RUP: SR", RUP, sr(&[])),
+    ]
+}
+
+/// The last literal becomes its complement.
+fn turn_last(bytes: &mut [u8]) {
+    *bytes.last_mut().expect("not empty") ^= 1;
+}
+
+type Change = fn(&mut Case);
+
+/// What the cases of a group share, changed in one: the step before has five bytes, and five more reach to the end of the clause.
+const CHANGES: [(&str, Change); 6] = [
+    ("words", |case| case.words += 1),
+    ("bytes", |case| case.bytes += 1),
+    ("formula", |case| turn_last(&mut case.formula)),
+    ("step before", |case| turn_last(&mut case.proof[..5])),
+    ("clause", |case| turn_last(&mut case.proof[..10])),
+    ("step after", |case| turn_last(&mut case.proof)),
+];
+
 #[test]
 fn groups_that_are_none_are_seen() {
-    // Each two of a group exchanged, and a group whose cases differ in a second step.
-    let lines = ["held 0 2 0"; facts::SIZE];
-    let seen = |group: &[Case]| facts::check(group, &lines, &mut facts::Tally::default());
+    let seen = |why: &str, group: &[Case]| {
+        let told = facts::check(group, &["held 0 3 0"; SIZE], &mut facts::Tally::default());
+        assert!(told.expect_err(why).starts_with("not a group"), "{why}");
+    };
     for (a, b) in [(0, 1), (0, 4), (1, 2), (2, 3), (3, 4)] {
         let mut group = group_of(&[3]);
         group.swap(a, b);
-        assert!(seen(&group).is_err_and(|told| told.starts_with("not a group")));
+        seen("exchanged", &group);
+    }
+    for (why, index, step) in wrong_steps() {
+        seen(why, &group_with(&[3], index, &step));
+    }
+    let step = delete(&[1, 2, 3, 4]);
+    seen("longer: DELETE", &group_with(&[], LONGER, &step));
+    for index in LONGER..SIZE {
+        for (why, change) in CHANGES {
+            let mut group = group_of(&[3]);
+            change(&mut group[index]);
+            seen(why, &group);
+        }
     }
     let mut group = group_of(&[3]);
-    group[1].proof.extend(writer::rup(&codes(&[3])));
-    assert!(seen(&group).is_err_and(|told| told.starts_with("not a group")));
+    group.push(group[FIRST].clone());
+    seen("a sixth case", &group);
+    group.iter_mut().for_each(|case| case.formula.clear());
+    seen("no formula", &group[..SIZE]);
+    let before = [writer::rup(&codes(&[3])), delete(&[5])].concat();
+    seen("before: 5 isn't live", &group_after(&before, &[3]));
+    // The tag of the one step is the last byte of the step before.
+    seen("before: cut", &group_after(&[0x11, 0, 2, 0], &[3]));
+}
+
+#[test]
+fn tallies_count_what_they_say() {
+    let [held, refuted, own] = ["held 0 3 0", "refuted 0 3 0", "refused 15 2 1"];
+    let later = "refused 13 3 0";
+    // Lines of the three lists, and each count; a group that breaks fact 1 counts nowhere.
+    let wanted = [
+        ([held, held, held], [1, 1, 0, 0, 0, 1, 0, 0]),
+        ([held, refuted, own], [1, 1, 0, 0, 1, 1, 0, 0]),
+        ([held, later, own], [1, 1, 0, 0, 1, 1, 0, 1]),
+        ([refuted, later, later], [1, 1, 0, 0, 0, 1, 0, 1]),
+        ([later, later, own], [1, 1, 0, 0, 1, 1, 0, 0]),
+        ([own, later, own], [1, 0, 1, 0, 0, 1, 0, 0]),
+        ([own, own, own], [1, 0, 0, 1, 0, 1, 0, 0]),
+        ([held, own, own], [0; 8]),
+        ([own, held, held], [0; 8]),
+        ([own, own, held], [0; 8]),
+    ];
+    for ([first, longer, other], counts) in wanted {
+        let mut tally = facts::Tally::default();
+        // The same refusal after both of fact 2, its place six bytes further on after WSR.
+        let lines = [first, longer, other, "refused 9 3 19", "refused 9 3 13"];
+        let told = facts::check(&group_of(&[3]), &lines, &mut tally);
+        assert_eq!(tally.counts().map(|(_, count)| count), counts, "{lines:?}");
+        assert_eq!(told.is_err(), counts == [0; 8], "{told:?}");
+    }
 }
 
 #[test]
 fn random_groups_keep_both_facts() {
     let mut tally = facts::Tally::default();
-    for group in facts::cases(2, 500).chunks(facts::SIZE) {
+    for group in groups::cases(2, 500).chunks(SIZE) {
         let lines: Vec<String> = group.iter().map(|case| case.answer().line()).collect();
         let lines: Vec<&str> = lines.iter().map(String::as_str).collect();
         assert_eq!(facts::check(group, &lines, &mut tally), Ok(()));
     }
-    assert!(tally.counts().iter().all(|(_, count)| *count > 0));
+    let counts = tally.counts().map(|(_, count)| count);
+    assert!(counts.iter().all(|count| *count > 0));
+    // "exactly when": a clause that is RUP and one that isn't both have to come up often.
+    let [groups, .., taken, refused, _] = counts;
+    assert!(4 * taken.min(refused) >= groups, "{counts:?}");
 }
 
 #[test]
