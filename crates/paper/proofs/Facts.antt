@@ -75,7 +75,8 @@ under-itself : (D : Clause) (l : ℕ) → l ∈ under [] D → l ∈ D
 under-itself D l m = let q = under-out [] D m in subst (λ (k : ℕ). k ∈ D) (sym (q .2 ∙ image-itself (q .0))) (q .1)
 
 -- 4. The second: "A WSR step with an empty witness and empty MODULO passes its conditions exactly when the RUP step of the same clause
--- does, as corollary 9 says." Of what the reading has seen of C this is needed: true is none of its literals. A variable might stand in it twice.
+-- does, as corollary 9 says." Of what the reading has seen of C (`Seen`, by `Reading.read-step-seen`) this is needed: true is none of its
+-- literals. A variable might stand in it twice.
 module _ (F : Formula) (C : Clause) (literals : (l : ℕ) → l ∈ C → 1 ≤ l) where
   trivial-rup : Trivialises [] C → RUP F C
   trivial-rup (to-true {l} m e) = absurd (omega (arith, literals l m, sym (image-itself l) ∙ e))
@@ -117,8 +118,8 @@ wsr-reason : {F : Formula} {next : ℕ} {C : Clause} {s : Witness} {modulo : Lis
 wsr-reason (wsr-lowest l) = refl
 wsr-reason (wsr-new old new) = refl
 
--- Where a step with an empty witness is refused, it is for reason 15 at its own clause, since a live one is its own image and passes; and
--- the RUP step of that clause is refused too.
+-- Where a WSR step with an empty witness is refused, it is for reason 15 at its own clause, since a live one is its own image and passes;
+-- and the RUP step of that clause is refused too. Of what the reading has seen of the live clauses this is needed: false is none of their literals.
 pub empty-refused : (vars : ℕ) (F : Formula) (next : ℕ) (C : Clause) (modulo : List ℕ) → Valid vars F → (r : Reason) (n : ℕ)
     → Judged F next (WSR-step C [] modulo) (stops r n) → (r ≡ NotPassing) × (n ≡ next) × Judged F next (RUP-step C) (stops NotRup 0)
 empty-refused vars F next C modulo valid r n j = (wsr-reason j, own .0, not-rup (λ q. own .1 (rup-passes F C [] C q)))
@@ -168,6 +169,8 @@ facts =
     ∷ case deck (steps (modulo-one 1) (unmapped modulo-none)) (refused NotPassing 1 5)
     -- step 2 with no mapping, modulo 3: taken as RUP is, but step 3 misses clause 3
     ∷ case deck (steps (modulo-one 5) (unmapped (modulo-one 3))) (refused NotRup 3 0)
+    -- and refused as RUP is, where clause 1 is missing
+    ∷ case deck (steps (0x22 ∷ 0 ∷ 4 ∷ 0 ∷ 1 ∷ 0 ∷ 5 ∷ []) (unmapped (modulo-one 3))) (refused NotPassing 2 7)
     ∷ []
 
 computed : map answer-of facts ≡ map (λ (c : Case). c .says) facts
