@@ -4,6 +4,8 @@ mod carried;
 mod cases;
 mod damage;
 mod deletions;
+#[cfg(test)]
+mod fact_tests;
 mod facts;
 mod faults;
 mod files;
