@@ -4,7 +4,6 @@ use mathlib.Core.Path.{_≡_}
 use mathlib.Core.List.{List, [], _∷_, map}
 use lib.ListN.{length}
 use Rattle.paper.specs.declared.Reason.{Reason}
-use Rattle.paper.specs.declared.Reason.the-variants.{ClauseLong}
 use Rattle.paper.specs.declared.Extent.{Extent}
 use Rattle.paper.specs.Atoms.{_∈_, Clause}
 use Rattle.paper.specs.Files.{File, Read, ok, bad, payload, codes}
@@ -13,7 +12,7 @@ use Rattle.table.specs.Table.{setValue}
 use Rattle.clauses.specs.declared.First.{First}
 use Rattle.clauses.specs.declared.First.the-variants.{At, Nowhere}
 use Rattle.clauses.specs.declared.ClauseCheck.{ClauseCheck}
-use Rattle.clauses.specs.declared.ClauseCheck.the-variants.{Fine, Range, Twice, Long}
+use Rattle.clauses.specs.declared.ClauseCheck.the-variants.{Fine, Range, Twice}
 
 -- the variables of a clause's codes
 abbrev pub variables : Clause → List ℕ
@@ -53,16 +52,14 @@ pub record Looked (f : File) (e : Extent) (t u : List ℕ) (r : First) : Type 0 
   pub fits : Fitting f (upTo r e)
   pub table : u ≡ marked t (variables (codes (payload f (upTo r e))))
 
--- what check_clause asks: a payload of whole codes, three bytes past its tag, and a number of variables within the paper's limit
+-- what check_clause asks: a payload of whole codes, and a number of variables within the paper's limit
 pub record Checkable (f : File) (e : Extent) (vars : ℕ) : Type 0 where
   pub within : e .start + e .size ≤ length f
   pub whole : e .size % 2 ≡ 0
-  pub tagged : 3 ≤ e .start
   pub limit : vars ≤ 4095
 
 -- what the paper says of a clause, by the code's answer
-unfoldable pub clauseSaid : Reason → Reason → ℕ → ClauseCheck → Read (Unit {0})
-clauseSaid range twice tag Fine = ok tt
-clauseSaid range twice tag (Range p) = bad range p
-clauseSaid range twice tag (Twice p) = bad twice p
-clauseSaid range twice tag Long = bad ClauseLong tag
+unfoldable pub clauseSaid : Reason → Reason → ClauseCheck → Read (Unit {0})
+clauseSaid range twice Fine = ok tt
+clauseSaid range twice (Range p) = bad range p
+clauseSaid range twice (Twice p) = bad twice p

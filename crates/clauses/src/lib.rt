@@ -1,12 +1,12 @@
-// The checks of one clause's codes: each stands for a variable 1 to V or its complement, no variable stands twice, and there are
-// at most V. A variable that stands twice is found by marks in the table of the variables, which are cleared again.
+// The checks of one clause's codes: each stands for a variable 1 to V or its complement, and no variable stands twice. One that does
+// is found by marks in the table of the variables, which are cleared again.
 use paper::Extent;
 ghost use mathlib.Core.Path.{_≡_};
 ghost use mathlib.Core.List.{[]};
-ghost use Prim.Native.Nat.{_+_, _*_, _-_, _%_, _≤_, _<_};
+ghost use Prim.Native.Nat.{_+_, _*_, _%_, _≤_};
 ghost use lib.ListN.{length};
 ghost use Rattle.paper.specs.declared.Reason.{Reason};
-ghost use Rattle.paper.specs.Files.{ok, payload, codes};
+ghost use Rattle.paper.specs.Files.{payload, codes};
 ghost use Rattle.paper.specs.Refusals.{each, no-two, between, check-clause};
 ghost use Rattle.table.specs.Table.{Zero};
 ghost use Rattle.clauses.specs.Check.{variables, Fitting, placeSaid, unmarked, Looked, Checkable, clauseSaid};
@@ -104,34 +104,19 @@ pub enum ClauseCheck {
     Range(usize),
     // The second code of a variable.
     Twice(usize),
-    // More than vars codes.
-    Long,
 }
 
-// The checks of a clause whose codes are all in range: a variable that stands twice, then more than vars codes.
-fn check_in_range(file: &[u8], e: Extent, vars: usize, t: &mut [u8]) -> ClauseCheck
-    requires { ⌜ Checkable (now file) e vars × (((range : Reason) → each range (between 2 (2 * vars + 1)) 2 (e .start) (codes (payload (now file) e)) ≡ ok tt) × ((8192 ≤ length (now t)) × Zero (now t))) ⌝ }
-    ensures said { λ r. ⌜ ((range twice : Reason) → check-clause range twice vars (e .start - 3) (codes (payload (now (file .entry)) e)) ≡ clauseSaid range twice (e .start - 3) r) ⌝ }
-    ensures table { λ _. ⌜ now (t .exit) ≡ now (t .entry) ⌝ }
-{
-    if let First::At(p) = variable_twice(file, e, t) {
-        return ClauseCheck::Twice(p);
-    }
-    let size = e.size;
-    if vars < size / 2 {
-        return ClauseCheck::Long;
-    }
-    ClauseCheck::Fine
-}
-
-// A code out of range comes before all else.
+// A code out of range comes before a variable that stands twice.
 pub fn check_clause(file: &[u8], e: Extent, vars: usize, t: &mut [u8]) -> ClauseCheck
     requires { ⌜ Checkable (now file) e vars × ((8192 ≤ length (now t)) × Zero (now t)) ⌝ }
-    ensures said { λ r. ⌜ ((range twice : Reason) → check-clause range twice vars (e .start - 3) (codes (payload (now (file .entry)) e)) ≡ clauseSaid range twice (e .start - 3) r) ⌝ }
+    ensures said { λ r. ⌜ ((range twice : Reason) → check-clause range twice vars (e .start) (codes (payload (now (file .entry)) e)) ≡ clauseSaid range twice r) ⌝ }
     ensures table { λ _. ⌜ now (t .exit) ≡ now (t .entry) ⌝ }
 {
     if let First::At(p) = first_out_of_range(file, e, vars) {
         return ClauseCheck::Range(p);
     }
-    check_in_range(file, e, vars, t)
+    if let First::At(p) = variable_twice(file, e, t) {
+        return ClauseCheck::Twice(p);
+    }
+    ClauseCheck::Fine
 }

@@ -6,19 +6,18 @@ use mathlib.Core.Logic.{_≢_}
 use mathlib.Core.Bool.{Bool, true, false}
 use mathlib.Core.List.{List, []}
 use native.Mathlib.Omega.{arith}
-use native.Mathlib.Decide.{ℕ-discrete}
 use native.Mathlib.Numerals.{add-one}
 use lib.ListN.{length, getD, set, take, drop, length-set}
 use Rattle.paper.specs.declared.Reason.{Reason}
-use Rattle.paper.specs.declared.Reason.the-variants.{ProofField, ProofCode, ProofTwice, NumbersUsedUp, ClauseLong}
+use Rattle.paper.specs.declared.Reason.the-variants.{ProofField, ProofCode, ProofTwice, NumbersUsedUp}
 use Rattle.paper.specs.declared.Extent.{Extent}
 use Rattle.paper.specs.declared.Fields.{Fields}
 use Rattle.paper.specs.Atoms.{Clause, Formula, Witness}
-use Rattle.paper.specs.Files.{File, ok, bad, _>>_, need, payload, past, codes, mappings}
+use Rattle.paper.specs.Files.{File, ok, bad, payload, past, codes, mappings}
 use Rattle.paper.specs.Conditions.{without, after}
-use Rattle.paper.specs.Refusals.{each, no-two, check-clause, read-fields, check-mappings, check-numbers}
+use Rattle.paper.specs.Refusals.{no-two, check-clause, read-fields, check-mappings, check-numbers}
 use Rattle.paper.specs.Answers.{Outcome, taken, Judged, deleted}
-use Rattle.paper.proofs.Lists.{eqb-same, eqb-other, leb-within}
+use Rattle.paper.proofs.Lists.{eqb-same, eqb-other}
 use Rattle.paper.specs.Valid.{Codes, Apart, Listed}
 use Rattle.paper.proofs.Reading.{Then, Ranged, check-clause-then, check-mappings-then, check-numbers-then}
 use Rattle.paper.proofs.Scan.{length-payload}
@@ -38,7 +37,7 @@ use Rattle.clauses.specs.declared.ClauseCheck.{ClauseCheck}
 use Rattle.clauses.specs.declared.ClauseCheck.the-variants as check
 use Rattle.steps.specs.Steps.{removed, Below}
 use Rattle.steps.proofs.Part.{no-codes}
-use Rattle.steps.proofs.Fields.{Lie, lie}
+use Rattle.steps.proofs.Fields.{lie}
 use Rattle.steps.proofs.Numbers.{removed-length, listed-used, after-removing, after-adding}
 use Rattle.steps.proofs.Step.{clause-of, witness-of, numbers-of, fields-refuse, clause-refuses, mappings-refuse, twice-refuses, numbers-refuse, used-up, new-read, delete-read, delete-tag}
 use Rattle.loading.proofs.Trivial.{images-inward}
@@ -53,65 +52,36 @@ pub part-payload : (f : File) (e : Extent) → take (e .start + e .size - e .sta
 unfolding payload
 part-payload f e = let h : e .start + e .size - e .start ≡ e .size = omega arith in rw h
 
--- 1. The clause. Its place is counted from the step's tag; a DELETE step has none.
-check-empty : (range twice : Reason) (vars tag : ℕ) → check-clause range twice vars tag [] ≡ ok tt
-unfolding check-clause each no-two need _>>_
-check-empty range twice vars tag = rw (leb-within 0 vars (omega arith))
-
-module _ (range twice : Reason) (vars tag at : ℕ) (C : Clause) where
-  empty-said : C ≡ [] → (r : ClauseCheck) → check-clause range twice vars tag C ≡ clauseSaid range twice tag r
-      → check-clause range twice vars at C ≡ clauseSaid range twice at r
+-- 1. The clause: what the check of its codes says, by its answer.
+module _ (p : File) (e : Extent) (vars : ℕ) (r : ClauseCheck)
+    (said : (range twice : Reason) → check-clause range twice vars (e .start) (codes (payload p e)) ≡ clauseSaid range twice r) where
+  pub said-fine : r ≡ check.Fine → check-clause ProofCode ProofTwice vars (e .start) (codes (payload p e)) ≡ ok tt
   unfolding clauseSaid
-  empty-said e check.Fine q = rw e (check-empty range twice vars at)
-  empty-said e (check.Range p) q = let z = check-empty range twice vars tag in let y : _≡_ {A = ℕ} 0 1 = cc in absurd (omega arith)
-  empty-said e (check.Twice p) q = let z = check-empty range twice vars tag in let y : _≡_ {A = ℕ} 0 1 = cc in absurd (omega arith)
-  empty-said e check.Long q = let z = check-empty range twice vars tag in let y : _≡_ {A = ℕ} 0 1 = cc in absurd (omega arith)
+  said-fine q = said ProofCode ProofTwice ∙ ap (clauseSaid ProofCode ProofTwice) q
 
-pub clause-said : (p : File) (at : ℕ) (x : Fields) → Lie p at x → (vars : ℕ) (r : ClauseCheck)
-    → ((range twice : Reason) → check-clause range twice vars (x .clause .start - 3) (clause-of p x) ≡ clauseSaid range twice (x .clause .start - 3) r)
-    → check-clause ProofCode ProofTwice vars at (clause-of p x) ≡ clauseSaid ProofCode ProofTwice at r
-clause-said p at x l vars r said = go (ℕ-discrete (getD p at 0) 0x14)
-  where
-    go : Dec (getD p at 0 ≡ 0x14) → check-clause ProofCode ProofTwice vars at (clause-of p x) ≡ clauseSaid ProofCode ProofTwice at r
-    go (yes e) = empty-said ProofCode ProofTwice vars (x .clause .start - 3) at (clause-of p x) (no-codes p (x .clause) (l .no-new e)) r (said ProofCode ProofTwice)
-    go (no ne) =
-        let s = l .new-start ne in
-        let h : x .clause .start - 3 ≡ at = omega arith in
-        subst (λ (tag : ℕ). check-clause ProofCode ProofTwice vars tag (clause-of p x) ≡ clauseSaid ProofCode ProofTwice tag r) h (said ProofCode ProofTwice)
-
-module _ (p : File) (at : ℕ) (x : Fields) (l : Lie p at x) (vars : ℕ) (r : ClauseCheck)
-    (said : (range twice : Reason) → check-clause range twice vars (x .clause .start - 3) (clause-of p x) ≡ clauseSaid range twice (x .clause .start - 3) r) where
-  pub said-fine : r ≡ check.Fine → check-clause ProofCode ProofTwice vars at (clause-of p x) ≡ ok tt
+  pub said-range : {place : ℕ} → r ≡ check.Range place → check-clause ProofCode ProofTwice vars (e .start) (codes (payload p e)) ≡ bad ProofCode place
   unfolding clauseSaid
-  said-fine e = clause-said p at x l vars r said ∙ ap (clauseSaid ProofCode ProofTwice at) e
+  said-range q = said ProofCode ProofTwice ∙ ap (clauseSaid ProofCode ProofTwice) q
 
-  pub said-range : {q : ℕ} → r ≡ check.Range q → check-clause ProofCode ProofTwice vars at (clause-of p x) ≡ bad ProofCode q
+  pub said-twice : {place : ℕ} → r ≡ check.Twice place → check-clause ProofCode ProofTwice vars (e .start) (codes (payload p e)) ≡ bad ProofTwice place
   unfolding clauseSaid
-  said-range e = clause-said p at x l vars r said ∙ ap (clauseSaid ProofCode ProofTwice at) e
-
-  pub said-twice : {q : ℕ} → r ≡ check.Twice q → check-clause ProofCode ProofTwice vars at (clause-of p x) ≡ bad ProofTwice q
-  unfolding clauseSaid
-  said-twice e = clause-said p at x l vars r said ∙ ap (clauseSaid ProofCode ProofTwice at) e
-
-  pub said-long : r ≡ check.Long → check-clause ProofCode ProofTwice vars at (clause-of p x) ≡ bad ClauseLong at
-  unfolding clauseSaid
-  said-long e = clause-said p at x l vars r said ∙ ap (clauseSaid ProofCode ProofTwice at) e
+  said-twice q = said ProofCode ProofTwice ∙ ap (clauseSaid ProofCode ProofTwice) q
 
 pub checkable : {f p : File} {at vars next : ℕ} {words t : List ℕ} {x : Fields} → Checkable f p at x vars next words t → clauses.Checkable p (x .clause) vars
 checkable {p = p} {at = at} {x = x} c =
     let l = lie p at x (c .fields) in
-    record { within = l .clause-within; whole = l .clause-even; tagged = omega (arith, l .clause-starts); limit = c .ready .variables }
+    record { within = l .clause-within; whole = l .clause-even; limit = c .ready .variables }
 
 -- 2. A step that is refused as it is read.
 module _ {f p : File} {at vars next : ℕ} {words t : List ℕ} {x : Fields} (c : Checkable f p at x vars next words t) where
   abbrev F : Formula
   F = live f p words
 
-  pub clause-stops : {r : Reason} {q : ℕ} → check-clause ProofCode ProofTwice vars at (clause-of p x) ≡ bad r q
+  pub clause-stops : {r : Reason} {q : ℕ} → check-clause ProofCode ProofTwice vars (x .clause .start) (clause-of p x) ≡ bad r q
       → JudgementIs p vars F next at x (Stopped r q)
   clause-stops e = unread (clause-refuses p vars F next at x (c .fields) _ _ e)
 
-  module _ (fine : check-clause ProofCode ProofTwice vars at (clause-of p x) ≡ ok tt) where
+  module _ (fine : check-clause ProofCode ProofTwice vars (x .clause .start) (clause-of p x) ≡ ok tt) where
     pub mappings-stop : {r : Reason} {q : ℕ} → check-mappings vars (x .witness .start) (witness-of p x) ≡ bad r q
         → JudgementIs p vars F next at x (Stopped r q)
     mappings-stop e = unread (mappings-refuse p vars F next at x (c .fields) fine _ _ e)
@@ -231,7 +201,7 @@ module _ {f p : File} {at vars next : ℕ} {words t : List ℕ} {x : Fields} (l 
         → numbers ≡ payload p (x .numbers) → New f p (take (next - 0) words) tag clause numbers vars next t
     new tag seen ne h clause numbers ec en =
         let i = lie p at x (l .fields) in
-        let c = subst (Then (λ _. Codes vars C × Apart C)) (l .clause) (check-clause-then ProofCode ProofTwice vars at C) in
+        let c = subst (Then (λ _. Codes vars C × Apart C)) (l .clause) (check-clause-then ProofCode ProofTwice vars (x .clause .start) C) in
         record {
           from = omega (arith, i .tag-from);
           to = omega (arith, i .tag-to);

@@ -122,7 +122,7 @@ pub record Loadable (f p : File) (at : ℕ) (x : Fields) (vars next : ℕ) (word
   pub clauses : ClauseTable f p next words
   pub kept : Kept vars next (live f p words)
   pub fields : read-fields p at ≡ ok x
-  pub clause : check-clause ProofCode ProofTwice vars at (codes (payload p (x .clause))) ≡ ok tt
+  pub clause : check-clause ProofCode ProofTwice vars (x .clause .start) (codes (payload p (x .clause))) ≡ ok tt
   pub mapped : check-mappings vars (x .witness .start) (mappings (codes (payload p (x .witness)))) ≡ ok tt
   pub once : no-two ProofTwice [] 4 (x .witness .start) (map (λ (m : ℕ × ℕ). m .0) (mappings (codes (payload p (x .witness))))) ≡ ok tt
   pub table : loading.Ready vars t

@@ -179,7 +179,7 @@ fn judge_loaded<'a>(
     )
 }
 
-// The clause (9, 10, 16), the witness (9, 10), then the rest with the witness's images in the table, which are cleared again.
+// The clause (9, 10), the witness (9, 10), then the rest with the witness's images in the table, which are cleared again.
 fn judge_fields<'a>(
     formula: &'a [u8],
     proof: &'a [u8],
@@ -201,9 +201,6 @@ fn judge_fields<'a>(
         }
         ClauseCheck::Twice(place) => {
             return stopped(Reason::ProofTwice, place);
-        }
-        ClauseCheck::Long => {
-            return stopped(Reason::ClauseLong, first.at);
         }
         ClauseCheck::Fine => {}
     }

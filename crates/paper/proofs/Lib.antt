@@ -15,3 +15,4 @@ pub mod Sides
 pub mod Lines
 pub mod Rules
 pub mod Facts
+pub mod Counting

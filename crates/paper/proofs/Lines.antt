@@ -8,7 +8,7 @@ use mathlib.Core.List.{List, [], _∷_, _++_, map, List·Memᴰ·append-cases, L
 use native.Mathlib.Omega.{arith}
 use lib.Dec.{ltb}
 use Rattle.paper.specs.declared.Reason.{Reason}
-use Rattle.paper.specs.declared.Reason.the-variants.{WorkShort, FileLong, FormulaField, OverLimit, FormulaCode, FormulaTwice, FormulaEnd, ProofField, ProofCode, ProofTwice, NumberNotLive, NumbersUsedUp, NotRup, NotTrivialised, NotPassing, ClauseLong}
+use Rattle.paper.specs.declared.Reason.the-variants.{WorkShort, FileLong, FormulaField, OverLimit, FormulaCode, FormulaTwice, FormulaEnd, ProofField, ProofCode, ProofTwice, NumberNotLive, NumbersUsedUp, NotRup, NotTrivialised, NotPassing}
 use Rattle.paper.specs.declared.Verdict.{Verdict}
 use Rattle.paper.specs.declared.Verdict.the-variants.{Refuted, Held}
 use Rattle.paper.specs.Atoms.{_∈_}
@@ -100,9 +100,27 @@ line-far = refl
 
 -- the reasons in the order of the paper's table
 pub reasons-numbered : map numberOf (WorkShort ∷ FileLong ∷ FormulaField ∷ OverLimit ∷ FormulaCode ∷ FormulaTwice ∷ FormulaEnd ∷ ProofField ∷ ProofCode
-    ∷ ProofTwice ∷ NumberNotLive ∷ NumbersUsedUp ∷ NotRup ∷ NotTrivialised ∷ NotPassing ∷ ClauseLong ∷ [])
-    ≡ 1 ∷ 2 ∷ 3 ∷ 4 ∷ 5 ∷ 6 ∷ 7 ∷ 8 ∷ 9 ∷ 10 ∷ 11 ∷ 12 ∷ 13 ∷ 14 ∷ 15 ∷ 16 ∷ []
+    ∷ ProofTwice ∷ NumberNotLive ∷ NumbersUsedUp ∷ NotRup ∷ NotTrivialised ∷ NotPassing ∷ [])
+    ≡ 1 ∷ 2 ∷ 3 ∷ 4 ∷ 5 ∷ 6 ∷ 7 ∷ 8 ∷ 9 ∷ 10 ∷ 11 ∷ 12 ∷ 13 ∷ 14 ∷ 15 ∷ []
 reasons-numbered = refl
+
+-- "leave its number unused": 16 is no reason's, now or later (02, §6)
+pub sixteen-unused : (r : Reason) → numberOf r ≢ 16
+sixteen-unused WorkShort = omega arith
+sixteen-unused FileLong = omega arith
+sixteen-unused FormulaField = omega arith
+sixteen-unused OverLimit = omega arith
+sixteen-unused FormulaCode = omega arith
+sixteen-unused FormulaTwice = omega arith
+sixteen-unused FormulaEnd = omega arith
+sixteen-unused ProofField = omega arith
+sixteen-unused ProofCode = omega arith
+sixteen-unused ProofTwice = omega arith
+sixteen-unused NumberNotLive = omega arith
+sixteen-unused NumbersUsedUp = omega arith
+sixteen-unused NotRup = omega arith
+sixteen-unused NotTrivialised = omega arith
+sixteen-unused NotPassing = omega arith
 
 -- the verdict as 0 refuted, 1 held, 2 refused, with the reason's number
 pub verdicts-numbered : (n p : ℕ) (r : Reason) → (numbersOf (Refuted n) ≡ record { verdict = 0; reason = 0; step = n; place = 0 })

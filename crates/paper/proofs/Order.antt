@@ -22,16 +22,16 @@ use Rattle.paper.specs.Answers.{refused, taken, Judged, stops, not-trivi
 use Rattle.paper.proofs.Lists.{eqb-same, eqb-other, leb-within, leb-beyond}
 use Rattle.paper.proofs.Answering.{steps-once, answer-once}
 
--- "the clause 9, 10, 16": a code out of range is refused first, whatever else is wrong with the clause
-pub range-first : (range twice : Reason) (vars tag : ℕ) (C : Clause) (r : Reason) (p : ℕ) → each range (between 2 (2 * vars + 1)) 2 (tag + 3) C ≡ bad r p
-    → check-clause range twice vars tag C ≡ bad r p
+-- "the clause 9, 10": a code out of range is refused first, whatever else is wrong with the clause
+pub range-first : (range twice : Reason) (vars at : ℕ) (C : Clause) (r : Reason) (p : ℕ) → each range (between 2 (2 * vars + 1)) 2 at C ≡ bad r p
+    → check-clause range twice vars at C ≡ bad r p
 unfolding check-clause _>>_
-range-first range twice vars tag C r p e = rw (e, _>>_)
+range-first range twice vars at C r p e = rw (e, _>>_)
 
 -- The checks of a step whose fields are read: its clause; its witness's variables and atoms; a variable mapped twice; its numbers.
 module _ (f : File) (vars at : ℕ) (x : Fields) where
   abbrev of-clause : Read (Unit {0})
-  of-clause = check-clause ProofCode ProofTwice vars at (codes (payload f (x .clause)))
+  of-clause = check-clause ProofCode ProofTwice vars (x .clause .start) (codes (payload f (x .clause)))
 
   abbrev of-witness : Read (Unit {0})
   of-witness = check-mappings vars (x .witness .start) (mappings (codes (payload f (x .witness))))
@@ -42,7 +42,7 @@ module _ (f : File) (vars at : ℕ) (x : Fields) where
   abbrev of-numbers : Formula → Read (Unit {0})
   of-numbers F = check-numbers F 0 (x .numbers .start) (codes (payload f (x .numbers)))
 
--- "In a step: 8 over all its fields; the clause 9, 10, 16; the witness 9, 10; the numbers 11; then 12": each before the next, whatever that
+-- "In a step: 8 over all its fields; the clause 9, 10; the witness 9, 10; the numbers 11; then 12": each before the next, whatever that
 -- would be refused for.
 module _ (f : File) (vars : ℕ) (F : Formula) (next at : ℕ) (r : Reason) (p : ℕ) where
   pub fields-first : read-fields f at ≡ bad r p → read-step f vars F next at ≡ bad r p
@@ -91,7 +91,7 @@ module _ (f : File) (vars : ℕ) (F : Formula) (next at : ℕ) (x : Fields) (a :
 
 -- "a later damaged field doesn't hide it": a clause of the formula is refused before the next field is looked at
 pub clause-first : (f : File) (vars m n at : ℕ) (e : Extent) (r : Reason) (p : ℕ) → ltb at (length f) ≡ true → field FormulaField 0x02 even f at ≡ ok e
-    → check-clause FormulaCode FormulaTwice vars at (codes (payload f e)) ≡ bad r p → read-clauses f vars (suc m) n at ≡ bad r p
+    → check-clause FormulaCode FormulaTwice vars (e .start) (codes (payload f e)) ≡ bad r p → read-clauses f vars (suc m) n at ≡ bad r p
 unfolding read-clauses need _>>=_ _>>_
 clause-first f vars m n at e r p a b c = rw (a, need, _>>_, b, _>>=_, c)
 

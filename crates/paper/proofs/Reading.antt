@@ -9,7 +9,7 @@ use native.Mathlib.Omega.{arith}
 use lib.Dec.{leb, ltb, eqb}
 use lib.ListN.{length, getD}
 use Rattle.paper.specs.declared.Reason.{Reason}
-use Rattle.paper.specs.declared.Reason.the-variants.{FormulaField, OverLimit, FormulaCode, FormulaTwice, FormulaEnd, ProofField, ProofCode, ProofTwice, NumberNotLive, NumbersUsedUp, ClauseLong}
+use Rattle.paper.specs.declared.Reason.the-variants.{FormulaField, OverLimit, FormulaCode, FormulaTwice, FormulaEnd, ProofField, ProofCode, ProofTwice, NumberNotLive, NumbersUsedUp}
 use Rattle.paper.specs.declared.Extent.{Extent}
 use Rattle.paper.specs.declared.Fields.{Fields}
 use Rattle.paper.specs.Atoms.{_∈_, Clause, Formula, Live, Witness}
@@ -126,13 +126,12 @@ pub between-yes : (low high x : ℕ) → between low high x ≡ true → (low �
 unfolding between
 between-yes low high x e = let r = and-yes (leb low x) (leb x high) e in (leb-yes low x (r .0), leb-yes x high (r .1))
 
-pub check-clause-then : (range twice : Reason) (vars tag : ℕ) (C : Clause) → Then (λ _. Codes vars C × Apart C) (check-clause range twice vars tag C)
+pub check-clause-then : (range twice : Reason) (vars p : ℕ) (C : Clause) → Then (λ _. Codes vars C × Apart C) (check-clause range twice vars p C)
 unfolding check-clause
-check-clause-then range twice vars tag C =
-    then-seq _ _ _ _ (each-then range (between 2 (2 * vars + 1)) 2 (tag + 3) C) λ _ a.
-    then-seq _ _ _ _ (no-two-then twice 2 (tag + 3) (map (λ l. l / 2) C)) λ _ b.
-    then-map (λ _. leb (length C) vars ≡ true) _ (need (leb (length C) vars) ClauseLong tag)
-    (λ _ _. ((λ l m. between-yes 2 (2 * vars + 1) l (a l m)), b)) (need-then (leb (length C) vars) ClauseLong tag)
+check-clause-then range twice vars p C =
+    then-seq _ _ _ _ (each-then range (between 2 (2 * vars + 1)) 2 p C) λ _ a.
+    then-map _ _ (no-two twice [] 2 p (map (λ l. l / 2) C)) (λ _ b. ((λ l m. between-yes 2 (2 * vars + 1) l (a l m)), b))
+    (no-two-then twice 2 p (map (λ l. l / 2) C))
 
 -- a field that is read lies in its file, past its tag
 pub record Lies (f : File) (at : ℕ) (e : Extent) : Type 0 where
@@ -181,7 +180,7 @@ read-clauses-numbered f vars zero n at =
 read-clauses-numbered f vars (suc m) n at =
     then-seq _ _ _ _ (anything (need (ltb at (length f)) FormulaEnd at)) λ _ _.
     then-bind _ _ _ _ (anything (field FormulaField 0x02 even f at)) λ e _.
-    then-seq _ _ _ _ (check-clause-then FormulaCode FormulaTwice vars at (codes (payload f e))) λ _ c.
+    then-seq _ _ _ _ (check-clause-then FormulaCode FormulaTwice vars (e .start) (codes (payload f e))) λ _ c.
     then-bind _ _ _ _ (read-clauses-numbered f vars m (suc n) (past e)) λ more s.
     numbered-first vars n m (codes (payload f e)) (more .0) c s
 
@@ -304,7 +303,7 @@ pub read-step-seen : (f : File) (vars : ℕ) (F : Formula) (next at : ℕ)
 unfolding read-step
 read-step-seen f vars F next at =
     then-bind _ _ _ _ (read-fields-past f at) λ x h.
-    then-seq _ _ _ _ (check-clause-then ProofCode ProofTwice vars at (codes (payload f (x .clause)))) λ _ c.
+    then-seq _ _ _ _ (check-clause-then ProofCode ProofTwice vars (x .clause .start) (codes (payload f (x .clause)))) λ _ c.
     then-seq _ _ _ _ (check-mappings-then vars (x .witness .start) (mappings (codes (payload f (x .witness))))) λ _ r.
     then-seq _ _ _ _ (no-two-then ProofTwice 4 (x .witness .start) (map (λ (m : ℕ × ℕ). m .0) (mappings (codes (payload f (x .witness)))))) λ _ o.
     then-seq _ _ _ _ (check-numbers-then F 0 (x .numbers .start) (codes (payload f (x .numbers)))) λ _ l.

@@ -9,7 +9,7 @@ use native.Mathlib.Omega.{arith}
 use lib.Dec.{eqb, leb, ltb}
 use lib.ListN.{length, getD}
 use Rattle.paper.specs.declared.Reason.{Reason}
-use Rattle.paper.specs.declared.Reason.the-variants.{FormulaField, OverLimit, FormulaCode, FormulaTwice, FormulaEnd, ProofField, ProofCode, ProofTwice, NumberNotLive, NumbersUsedUp, ClauseLong}
+use Rattle.paper.specs.declared.Reason.the-variants.{FormulaField, OverLimit, FormulaCode, FormulaTwice, FormulaEnd, ProofField, ProofCode, ProofTwice, NumberNotLive, NumbersUsedUp}
 use Rattle.paper.specs.declared.Verdict.{Verdict}
 use Rattle.paper.specs.declared.Verdict.the-variants.{Refuted, Held, Refused}
 use Rattle.paper.specs.Atoms.{Clause, Formula, Witness}
@@ -48,11 +48,10 @@ module _ (P : Reason → Type 0) where
   else-no-two : (r : Reason) (seen : List ℕ) (u p : ℕ) (C : List ℕ) → P r → Else P (no-two r seen u p C)
   else-no-two r seen u p C h = reads-no-two (λ q at. P q) r (λ at. h) seen u p C
 
-  else-clause : (range twice : Reason) (vars tag : ℕ) (C : Clause) → P range → P twice → P ClauseLong → Else P (check-clause range twice vars tag C)
+  else-clause : (range twice : Reason) (vars p : ℕ) (C : Clause) → P range → P twice → Else P (check-clause range twice vars p C)
   unfolding check-clause
-  else-clause range twice vars tag C a b c =
-      else-seq _ _ (else-each range (between 2 (2 * vars + 1)) 2 (tag + 3) C a)
-      (else-seq _ _ (else-no-two twice [] 2 (tag + 3) (map (λ l. l / 2) C) b) (else-need (leb (length C) vars) ClauseLong tag c))
+  else-clause range twice vars p C a b =
+      else-seq _ _ (else-each range (between 2 (2 * vars + 1)) 2 p C a) (else-no-two twice [] 2 p (map (λ l. l / 2) C) b)
 
   else-field-if : (b : Bool) (tag : ℕ) (allowed : ℕ → Bool) (f : File) (at : ℕ) → P ProofField → Else P (field-if b tag allowed f at)
   unfolding field-if
@@ -71,38 +70,34 @@ module _ (P : Reason → Type 0) where
 pub fields-reason : (f : File) (at : ℕ) (r : Reason) (p : ℕ) → read-fields f at ≡ bad r p → r ≡ ProofField
 fields-reason f at r p e = subst (Else (λ q. q ≡ ProofField)) e (else-fields (λ q. q ≡ ProofField) f at refl)
 
--- "In the formula: HEAD 3, 4; for each clause 7 (bytes at an end), 3, 5, 6, 16; after clause m, 7."
+-- "In the formula: HEAD 3, 4; for each clause 7 (bytes at an end), 3, 5, 6; after clause m, 7."
 abbrev pub OfFormula : Reason → Type 0
-OfFormula r = ((3 ≤ numberOf r) × (numberOf r ≤ 7)) ⊎ (numberOf r ≡ 16)
-
--- a number of the paper's order, as a fact of arithmetic
-of-formula : (n : ℕ) → 3 ≤ n → n ≤ 7 → ((3 ≤ n) × (n ≤ 7)) ⊎ (n ≡ 16)
-of-formula n a b = inl (a, b)
+OfFormula r = (3 ≤ numberOf r) × (numberOf r ≤ 7)
 
 else-clauses : (f : File) (vars m n at : ℕ) → Else OfFormula (read-clauses f vars m n at)
 unfolding read-clauses
 else-clauses f vars zero n at = tt
 else-clauses f vars (suc m) n at =
-    else-seq OfFormula _ _ (else-need OfFormula (ltb at (length f)) FormulaEnd at (of-formula 7 (omega arith) (omega arith)))
-    (else-bind OfFormula _ _ (else-field OfFormula FormulaField 0x02 even f at (of-formula 3 (omega arith) (omega arith))) λ e.
+    else-seq OfFormula _ _ (else-need OfFormula (ltb at (length f)) FormulaEnd at (omega arith, omega arith))
+    (else-bind OfFormula _ _ (else-field OfFormula FormulaField 0x02 even f at (omega arith, omega arith)) λ e.
     else-seq OfFormula _ _
-    (else-clause OfFormula FormulaCode FormulaTwice vars at (codes (payload f e)) (of-formula 5 (omega arith) (omega arith)) (of-formula 6 (omega arith) (omega arith)) (inr refl))
+    (else-clause OfFormula FormulaCode FormulaTwice vars (e .start) (codes (payload f e)) (omega arith, omega arith) (omega arith, omega arith))
     (else-bind OfFormula _ _ (else-clauses f vars m (suc n) (past e)) λ more. tt))
 
 else-formula : (f : File) → Else OfFormula (read-formula f)
 unfolding read-formula
 else-formula f =
-    else-bind OfFormula _ _ (else-field OfFormula FormulaField 0x01 four f 0 (of-formula 3 (omega arith) (omega arith))) λ e.
-    else-seq OfFormula _ _ (else-need OfFormula (leb (two f 3) 4095 && leb (two f 5) 16383) OverLimit 0 (of-formula 4 (omega arith) (omega arith)))
+    else-bind OfFormula _ _ (else-field OfFormula FormulaField 0x01 four f 0 (omega arith, omega arith)) λ e.
+    else-seq OfFormula _ _ (else-need OfFormula (leb (two f 3) 4095 && leb (two f 5) 16383) OverLimit 0 (omega arith, omega arith))
     (else-bind OfFormula _ _ (else-clauses f (two f 3) (two f 5) 1 (past e)) λ F.
-    else-seq OfFormula _ _ (else-need OfFormula (leb (length f) (F .1)) FormulaEnd (F .1) (of-formula 7 (omega arith) (omega arith))) tt)
+    else-seq OfFormula _ _ (else-need OfFormula (leb (length f) (F .1)) FormulaEnd (F .1) (omega arith, omega arith)) tt)
 
 pub formula-reasons : (f : File) (r : Reason) (p : ℕ) → read-formula f ≡ bad r p → OfFormula r
 formula-reasons f r p e = subst (Else OfFormula) e (else-formula f)
 
--- "In a step: 8 over all its fields; the clause 9, 10, 16; the witness 9, 10; the numbers 11; then 12; then 13, or 14 before 15."
+-- "In a step: 8 over all its fields; the clause 9, 10; the witness 9, 10; the numbers 11; then 12; then 13, or 14 before 15."
 abbrev pub OfStep : Reason → Type 0
-OfStep r = (8 ≤ numberOf r) × (numberOf r ≤ 16)
+OfStep r = (8 ≤ numberOf r) × (numberOf r ≤ 15)
 
 else-mappings : (vars p : ℕ) (s : Witness) → Else OfStep (check-mappings vars p s)
 unfolding check-mappings
@@ -121,7 +116,7 @@ else-step : (f : File) (vars : ℕ) (F : Formula) (next at : ℕ) → Else OfSte
 unfolding read-step
 else-step f vars F next at =
     else-bind OfStep _ _ (else-fields OfStep f at (omega arith, omega arith)) λ x.
-    else-seq OfStep _ _ (else-clause OfStep ProofCode ProofTwice vars at (codes (payload f (x .clause))) (omega arith, omega arith) (omega arith, omega arith) (omega arith, omega arith))
+    else-seq OfStep _ _ (else-clause OfStep ProofCode ProofTwice vars (x .clause .start) (codes (payload f (x .clause))) (omega arith, omega arith) (omega arith, omega arith))
     (else-seq OfStep _ _ (else-mappings vars (x .witness .start) (mappings (codes (payload f (x .witness)))))
     (else-seq OfStep _ _
     (else-no-two OfStep ProofTwice [] 4 (x .witness .start) (map (λ (m : ℕ × ℕ). m .0) (mappings (codes (payload f (x .witness))))) (omega arith, omega arith))
@@ -157,8 +152,7 @@ not-reason-1 w b (file-long x y z) e = absurd (omega arith)
 not-reason-1 {formula} w b (formula-bad {r} {p} i q) e = side (formula-reasons formula r p q)
   where
     side : OfFormula r → ⊥
-    side (inl h) = omega arith
-    side (inr h) = omega arith
+    side h = omega arith
 not-reason-1 {v} w b (proof-judged i q s) e = side v (steps-reasons s) e
   where
     side : (x : Verdict) → OfSteps x → numbersOf x .reason ≡ 1 → ⊥
@@ -171,16 +165,12 @@ abbrev pub Listed : Verdict → Type 0
 Listed (Refuted n) = Unit {0}
 Listed (Held n) = Unit {0}
 Listed (Refused f) =
-    ((f .step ≡ 0) × (((1 ≤ numberOf (f .reason)) × (numberOf (f .reason) ≤ 7)) ⊎ (numberOf (f .reason) ≡ 16))) ⊎ (OfStep (f .reason) × (1 ≤ f .step))
+    ((f .step ≡ 0) × (1 ≤ numberOf (f .reason)) × (numberOf (f .reason) ≤ 7)) ⊎ (OfStep (f .reason) × (1 ≤ f .step))
 
 pub answer-listed : {words bytes : ℕ} {formula proof : File} {v : Verdict} → Answer words bytes formula proof v → Listed v
-answer-listed (work-short h) = inl (refl, inl (omega arith, omega arith))
-answer-listed (file-long a b h) = inl (refl, inl (omega arith, omega arith))
-answer-listed {formula} (formula-bad {r} {p} w e) = inl (refl, go (formula-reasons formula r p e))
-  where
-    go : OfFormula r → ((1 ≤ numberOf r) × (numberOf r ≤ 7)) ⊎ (numberOf r ≡ 16)
-    go (inl h) = inl (omega arith, h .1)
-    go (inr h) = inr h
+answer-listed (work-short h) = inl (refl, omega arith, omega arith)
+answer-listed (file-long a b h) = inl (refl, omega arith, omega arith)
+answer-listed {formula} (formula-bad {r} {p} w e) = let h = formula-reasons formula r p e in inl (refl, omega arith, h .1)
 answer-listed {v} (proof-judged w e s) = go v (steps-reasons s)
   where
     go : (x : Verdict) → OfSteps x → Listed x

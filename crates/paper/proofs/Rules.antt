@@ -10,7 +10,7 @@ use native.Mathlib.Omega.{arith}
 use lib.Dec.{eqb, leb, ltb}
 use lib.ListN.{length, getD}
 use Rattle.paper.specs.declared.Reason.{Reason}
-use Rattle.paper.specs.declared.Reason.the-variants.{FormulaField, OverLimit, FormulaCode, FormulaTwice, FormulaEnd, ProofField, ProofCode, NumberNotLive, ClauseLong}
+use Rattle.paper.specs.declared.Reason.the-variants.{FormulaField, OverLimit, FormulaCode, FormulaTwice, FormulaEnd, ProofField, ProofCode, NumberNotLive}
 use Rattle.paper.specs.declared.Extent.{Extent}
 use Rattle.paper.specs.declared.Verdict.{Verdict}
 use Rattle.paper.specs.declared.Verdict.the-variants.{Refuted, Held, Refused}
@@ -21,7 +21,7 @@ use Rattle.paper.specs.Refusals.{each, no-two, between, check-clause, re
 use Rattle.paper.specs.Answers.{numberOf, numbersOf, Answer, work-short, file-long, formula-bad, proof-judged}
 use Rattle.paper.specs.Valid.{Distinct, Codes, Apart, Listed}
 use Rattle.paper.proofs.Lists.{eqb-yes, eqb-same, or-yes, leb-yes, leb-no, leb-within, leb-beyond, is-in-yes, is-in-no}
-use Rattle.paper.proofs.Reading.{Reads, reads-bind, reads-seq, reads-need, reads-each, reads-no-two, Then, then-seq, then-map, need-then, each-then, no-two-then, between-yes, check-mappings-then, check-numbers-then, Ranged}
+use Rattle.paper.proofs.Reading.{Reads, reads-bind, reads-seq, reads-need, reads-each, reads-no-two, Then, each-then, no-two-then, check-clause-then, check-mappings-then, check-numbers-then, Ranged}
 use Rattle.paper.proofs.Reasons.{OfFormula, formula-reasons, OfSteps, steps-reasons}
 
 -- "HEAD has length 4, code and number lists even length, a WITNESS a multiple of 4"
@@ -158,26 +158,16 @@ unfolding between
 between-outside low high x (inl h) = rw (leb-beyond low x h)
 between-outside low high x (inr h) = and-false (leb low x) (leb x high) (leb-beyond x high h)
 
--- "code outside 2 to 2V+1", "variable twice in a clause", "more than V literals": a clause is read exactly where it has none of these
-module _ (range twice : Reason) (vars tag : ℕ) (C : Clause) where
-  clause-then : Then (λ _. Codes vars C × Apart C × (length C ≤ vars)) (check-clause range twice vars tag C)
-  unfolding check-clause
-  clause-then =
-      then-seq _ _ _ _ (each-then range (between 2 (2 * vars + 1)) 2 (tag + 3) C) λ _ a.
-      then-seq _ _ _ _ (no-two-then twice 2 (tag + 3) (map (λ l. l / 2) C)) λ _ b.
-      then-map (λ _. leb (length C) vars ≡ true) _ (need (leb (length C) vars) ClauseLong tag)
-      (λ _ h. ((λ l m. between-yes 2 (2 * vars + 1) l (a l m)), b, leb-yes (length C) vars h)) (need-then (leb (length C) vars) ClauseLong tag)
-
-  pub clause-exactly : (check-clause range twice vars tag C ≡ ok tt) ↔ (Codes vars C × Apart C × (length C ≤ vars))
-  unfolding check-clause need _>>_
-  clause-exactly = (
-    (λ h. subst (Then (λ _. Codes vars C × Apart C × (length C ≤ vars))) h clause-then),
-    λ k. rw (
-      (each-exactly range (between 2 (2 * vars + 1)) 2 (tag + 3) C) .1 (λ l m. let h = k .0 l m in between-within 2 (2 * vars + 1) l (h .0) (h .1)),
-      (no-two-exactly twice 2 (tag + 3) (map (λ l. l / 2) C)) .1 (k .1),
-      leb-within (length C) vars (k .2),
-    ),
-  )
+-- "code outside 2 to 2V+1", "variable twice in a clause": a clause is read exactly where it has neither
+pub clause-exactly : (range twice : Reason) (vars p : ℕ) (C : Clause) → (check-clause range twice vars p C ≡ ok tt) ↔ (Codes vars C × Apart C)
+unfolding check-clause _>>_
+clause-exactly range twice vars p C = (
+  (λ h. subst (Then (λ _. Codes vars C × Apart C)) h (check-clause-then range twice vars p C)),
+  λ k. rw (
+    (each-exactly range (between 2 (2 * vars + 1)) 2 p C) .1 (λ l m. let h = k .0 l m in between-within 2 (2 * vars + 1) l (h .0) (h .1)),
+    (no-two-exactly twice 2 p (map (λ l. l / 2) C)) .1 (k .1),
+  ),
+)
 
 -- "witness variable outside 1 to V, atom outside 0 to 2V+1": the variable before its atom, a pair before the next
 module _ (vars : ℕ) where
@@ -256,13 +246,11 @@ live-exactly n (E ∷ F) = ((λ e. there (live-exactly n F) (or-yes (eqb n (E .0
 abbrev OfClauses : File → Reason → ℕ → Type 0
 OfClauses f r p = (numberOf r ≢ 4) × (numberOf r ≡ 7 → p ≡ length f)
 
-reads-clause : (f : File) (vars tag : ℕ) (C : Clause)
-    → Reads (λ _. leb (length C) vars ≡ true) (OfClauses f) (check-clause FormulaCode FormulaTwice vars tag C)
+reads-clause : (f : File) (vars p : ℕ) (C : Clause) → Reads (λ _. Unit {0}) (OfClauses f) (check-clause FormulaCode FormulaTwice vars p C)
 unfolding check-clause
-reads-clause f vars tag C =
-    reads-seq Q _ _ _ _ (reads-each Q FormulaCode (λ p. (omega arith, λ e. absurd (omega arith))) (between 2 (2 * vars + 1)) 2 (tag + 3) C) λ _ _.
-    reads-seq Q _ _ _ _ (reads-no-two Q FormulaTwice (λ p. (omega arith, λ e. absurd (omega arith))) [] 2 (tag + 3) (map (λ l. l / 2) C)) λ _ _.
-    reads-need Q (leb (length C) vars) ClauseLong tag (λ _. (omega arith, λ e. absurd (omega arith)))
+reads-clause f vars p C =
+    reads-seq Q _ _ _ _ (reads-each Q FormulaCode (λ q. (omega arith, λ e. absurd (omega arith))) (between 2 (2 * vars + 1)) 2 p C) λ _ _.
+    reads-no-two Q FormulaTwice (λ q. (omega arith, λ e. absurd (omega arith))) [] 2 p (map (λ l. l / 2) C)
   where
     Q : Reason → ℕ → Type 0
     Q = OfClauses f
@@ -274,7 +262,7 @@ reads-clauses f vars zero n at h = h
 reads-clauses f vars (suc m) n at h =
     reads-seq Q _ _ _ _ (reads-need Q (ltb at (length f)) FormulaEnd at (λ e. (omega arith, λ _. let k = leb-no (suc at) (length f) e in omega arith))) λ _ _.
     reads-bind Q _ _ _ _ (reads-field Q FormulaField 0x02 even f at (omega arith, λ e. absurd (omega arith))) λ e w.
-    reads-seq Q _ _ _ _ (reads-clause f vars at (codes (payload f e))) λ _ _.
+    reads-seq Q _ _ _ _ (reads-clause f vars (e .start) (codes (payload f e))) λ _ _.
     reads-bind Q _ _ _ _ (reads-clauses f vars m (suc n) (past e) (w .ends)) λ x k. k
   where
     Q : Reason → ℕ → Type 0
@@ -288,7 +276,7 @@ end-exactly f vars m n at h = (
   λ e. let b = leb-beyond (suc at) (length f) (omega arith) in rw b,
 )
 
--- "for each clause 7 (bytes at an end), 3, 5, 6, 16": where the file goes on, its field, then its codes (`Order.clause-first`), then the rest
+-- "for each clause 7 (bytes at an end), 3, 5, 6": where the file goes on, its field, then its codes (`Order.clause-first`), then the rest
 pub clauses-none : (f : File) (vars n at : ℕ) → read-clauses f vars zero n at ≡ ok ([], at)
 unfolding read-clauses
 clauses-none f vars n at = refl
@@ -299,7 +287,7 @@ module _ (f : File) (vars m n at : ℕ) (here : at < length f) where
   clause-field r p a = rw (leb-within (suc at) (length f) here, need, _>>_, a)
 
   module _ (e : Extent) (a : field FormulaField 0x02 even f at ≡ ok e)
-      (b : check-clause FormulaCode FormulaTwice vars at (codes (payload f e)) ≡ ok tt) where
+      (b : check-clause FormulaCode FormulaTwice vars (e .start) (codes (payload f e)) ≡ ok tt) where
     pub clause-read : (F : Formula) (later : ℕ) → read-clauses f vars m (suc n) (past e) ≡ ok (F, later)
         → read-clauses f vars (suc m) n at ≡ ok ((n, codes (payload f e)) ∷ F, later)
     unfolding read-clauses need _>>=_ _>>_
@@ -432,8 +420,7 @@ long-only (file-long w b h) e = h
 long-only {formula} {proof} (formula-bad {r} {p} w q) e = side (formula-reasons formula r p q)
   where
     side : OfFormula r → (1048576 < length formula) ⊎ (1048576 < length proof)
-    side (inl h) = absurd (omega arith)
-    side (inr h) = absurd (omega arith)
+    side h = absurd (omega arith)
 long-only {formula} {proof} {v} (proof-judged w q s) e = side v (steps-reasons s) e
   where
     side : (x : Verdict) → OfSteps x → numbersOf x .reason ≡ 2 → (1048576 < length formula) ⊎ (1048576 < length proof)

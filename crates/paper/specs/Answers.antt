@@ -7,7 +7,7 @@ use mathlib.Core.Bool.{true, false}
 use lib.Dec.{eqb}
 use lib.ListN.{length, drop, replicate}
 use Rattle.paper.specs.declared.Reason.{Reason}
-use Rattle.paper.specs.declared.Reason.the-variants.{WorkShort, FileLong, FormulaField, OverLimit, FormulaCode, FormulaTwice, FormulaEnd, ProofField, ProofCode, ProofTwice, NumberNotLive, NumbersUsedUp, NotRup, NotTrivialised, NotPassing, ClauseLong}
+use Rattle.paper.specs.declared.Reason.the-variants.{WorkShort, FileLong, FormulaField, OverLimit, FormulaCode, FormulaTwice, FormulaEnd, ProofField, ProofCode, ProofTwice, NumberNotLive, NumbersUsedUp, NotRup, NotTrivialised, NotPassing}
 use Rattle.paper.specs.declared.Verdict.{Verdict}
 use Rattle.paper.specs.declared.Verdict.the-variants.{Refuted, Held, Refused}
 use Rattle.paper.specs.declared.Numbers.{Numbers}
@@ -17,7 +17,8 @@ use Rattle.paper.specs.Conditions.{RUP, Trivialises, Passes, SR, WSR, Lo
 use Rattle.paper.specs.Stowages.{Stowage, carried}
 use Rattle.paper.specs.Refusals.{read-formula, read-step}
 
--- the reasons by their numbers in the paper's table
+-- the reasons by their numbers in the paper's table; 16 is none: "strike reason 16 from the table and the order, and leave its number
+-- unused" (02, §6)
 abbrev pub numberOf : Reason → ℕ
 numberOf WorkShort = 1
 numberOf FileLong = 2
@@ -34,7 +35,6 @@ numberOf NumbersUsedUp = 12
 numberOf NotRup = 13
 numberOf NotTrivialised = 14
 numberOf NotPassing = 15
-numberOf ClauseLong = 16
 
 -- "verdict .., reason (0 unless refused), step, place (0 unless refused)"; the verdict as 0 refuted, 1 held, 2 refused
 abbrev pub numbersOf : Verdict → Numbers

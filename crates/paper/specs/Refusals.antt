@@ -5,7 +5,7 @@ use mathlib.Core.List.{List, [], _∷_, map}
 use lib.Dec.{eqb, leb, ltb}
 use lib.ListN.{length, getD}
 use Rattle.paper.specs.declared.Reason.{Reason}
-use Rattle.paper.specs.declared.Reason.the-variants.{FormulaField, OverLimit, FormulaCode, FormulaTwice, FormulaEnd, ProofField, ProofCode, ProofTwice, NumberNotLive, NumbersUsedUp, ClauseLong}
+use Rattle.paper.specs.declared.Reason.the-variants.{FormulaField, OverLimit, FormulaCode, FormulaTwice, FormulaEnd, ProofField, ProofCode, ProofTwice, NumberNotLive, NumbersUsedUp}
 use Rattle.paper.specs.declared.Extent.{Extent}
 use Rattle.paper.specs.declared.Fields.{Fields}
 use Rattle.paper.specs.Atoms.{Clause, Formula, Witness}
@@ -26,21 +26,20 @@ no-two r seen u p (x ∷ xs) = elim (is-in x seen) [ true ↦ bad r p | false �
 unfoldable pub between : ℕ → ℕ → ℕ → Bool
 between low high x = leb low x && leb x high
 
--- A clause, and the place of its tag. 5 and 9: "code outside 2 to 2V+1"; 6 and 10: "variable twice in a clause", at "its second
--- code"; 16: "clause with more than V literals", at "offset of its tag".
+-- A clause, and the place of its first code. 5 and 9: "code outside 2 to 2V+1"; 6 and 10: "variable twice in a clause", at "its
+-- second code". 02, §6: "with codes in range and no variable twice, no clause has more than V literals", so 16 is not asked.
 unfoldable pub check-clause : Reason → Reason → ℕ → ℕ → Clause → Read (Unit {0})
-check-clause range twice vars tag C = do
-  each range (between 2 (2 * vars + 1)) 2 (tag + 3) C
-  no-two twice [] 2 (tag + 3) (map (λ l. l / 2) C)
-  need (leb (length C) vars) ClauseLong tag
+check-clause range twice vars p C = do
+  each range (between 2 (2 * vars + 1)) 2 p C
+  no-two twice [] 2 p (map (λ l. l / 2) C)
 
--- "for each clause 7 (bytes at an end), 3, 5, 6, 16": m clauses, under the numbers from n on, and the place past them
+-- "for each clause 7 (bytes at an end), 3, 5, 6": m clauses, under the numbers from n on, and the place past them
 unfoldable pub read-clauses : File → ℕ → ℕ → ℕ → ℕ → Read (Formula × ℕ)
 read-clauses f vars zero n at = ok ([], at)
 read-clauses f vars (suc m) n at = do
   need (ltb at (length f)) FormulaEnd at
   e ← field FormulaField 0x02 even f at
-  check-clause FormulaCode FormulaTwice vars at (codes (payload f e))
+  check-clause FormulaCode FormulaTwice vars (e .start) (codes (payload f e))
   more ← read-clauses f vars m (suc n) (past e)
   ok ((n, codes (payload f e)) ∷ (more .0), more .1)
 
@@ -96,14 +95,14 @@ to-step tag C s ns =
       | false ↦ elim (eqb tag 0x12) [ true ↦ SR-step C s | false ↦ elim (eqb tag 0x13) [ true ↦ WSR-step C s ns | false ↦ DELETE-step ns ] ]
     ]
 
--- "the clause 9, 10, 16; the witness 9, 10; the numbers 11; then 12". The step at a place, and the place past it.
+-- "the clause 9, 10; the witness 9, 10; the numbers 11; then 12". The step at a place, and the place past it.
 unfoldable pub read-step : File → ℕ → Formula → ℕ → ℕ → Read (Step × ℕ)
 read-step f vars F next at = do
   x ← read-fields f at
   let C : Clause = codes (payload f (x .clause))
   let s : Witness = mappings (codes (payload f (x .witness)))
   let ns : List ℕ = codes (payload f (x .numbers))
-  check-clause ProofCode ProofTwice vars at C
+  check-clause ProofCode ProofTwice vars (x .clause .start) C
   check-mappings vars (x .witness .start) s
   no-two ProofTwice [] 4 (x .witness .start) (map (λ (m : ℕ × ℕ). m .0) s)
   check-numbers F 0 (x .numbers .start) ns

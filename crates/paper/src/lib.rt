@@ -32,7 +32,6 @@ pub enum Reason {
     NotRup,
     NotTrivialised,
     NotPassing,
-    ClauseLong,
 }
 
 pub struct Refusal {
@@ -74,7 +73,6 @@ pub fn reason_number(r: Reason) -> u8
         Reason::NotRup => 13,
         Reason::NotTrivialised => 14,
         Reason::NotPassing => 15,
-        Reason::ClauseLong => 16,
     }
 }
 

@@ -1,9 +1,8 @@
 -- One clause as the code reads it, against the paper's reading of the clauses.
 -- Assumes nothing.
-use Prim.Native.Nat.{ℕ, suc, _-_, _%_, _≤_, _<_}
+use Prim.Native.Nat.{ℕ, suc, _%_, _≤_, _<_}
 use mathlib.Core.Path.{_≡_, refl, sym, ap, subst, _∙_}
 use mathlib.Core.List.{[], _∷_, _++_, append-nil, append-assoc}
-use native.Mathlib.Omega.{arith}
 use borrow.Author.Tests.{lt-ltb, le-ltb}
 use lib.ListN.{length}
 use Rattle.paper.specs.declared.Reason.{Reason}
@@ -60,17 +59,14 @@ module _ (f : File) (vars at : ℕ) where
       unfolding even
       clause-checkable k =
           let s = stands FormulaField 0x02 even f at e q in
-          record { within = s .within; whole = eqb-yes (e .size % 2) 0 (s .length-allowed); tagged = omega arith; limit = k }
+          record { within = s .within; whole = eqb-yes (e .size % 2) 0 (s .length-allowed); limit = k }
 
       -- the check's answer r, under another name s for it
-      module _ (r s : ClauseCheck) (said : (range twice : Reason) → check-clause range twice vars (e .start - 3) (codes (payload f e)) ≡ clauseSaid range twice (e .start - 3) r) (same : r ≡ s) where
-        checked : check-clause FormulaCode FormulaTwice vars at (codes (payload f e)) ≡ clauseSaid FormulaCode FormulaTwice at s
-        checked =
-            let w = stands FormulaField 0x02 even f at e q in
-            let tag : e .start - 3 ≡ at = omega arith in
-            rw tag at (said FormulaCode FormulaTwice ∙ ap (clauseSaid FormulaCode FormulaTwice (e .start - 3)) same)
+      module _ (r s : ClauseCheck) (said : (range twice : Reason) → check-clause range twice vars (e .start) (codes (payload f e)) ≡ clauseSaid range twice r) (same : r ≡ s) where
+        checked : check-clause FormulaCode FormulaTwice vars (e .start) (codes (payload f e)) ≡ clauseSaid FormulaCode FormulaTwice s
+        checked = said FormulaCode FormulaTwice ∙ ap (clauseSaid FormulaCode FormulaTwice) same
 
-        pub clause-bad : (reason : Reason) (p : ℕ) → clauseSaid FormulaCode FormulaTwice at s ≡ bad reason p → (m n : ℕ)
+        pub clause-bad : (reason : Reason) (p : ℕ) → clauseSaid FormulaCode FormulaTwice s ≡ bad reason p → (m n : ℕ)
             → read-clauses f vars (suc m) n at ≡ bad reason p
         unfolding read-clauses _>>_ _>>=_ need
         clause-bad reason p k m n = rw (lt-ltb at (length f) h, q, checked ∙ k)
@@ -80,7 +76,7 @@ module _ (f : File) (vars at : ℕ) where
         place = let s = stands FormulaField 0x02 even f at e q in rw (s .start, s .size)
 
         -- the next clause is read where the cursor past this one stands
-        pub clause-taken : clauseSaid FormulaCode FormulaTwice at s ≡ ok tt → (next : ℕ) → next ≡ past e → ClauseTaken f vars at next
+        pub clause-taken : clauseSaid FormulaCode FormulaTwice s ≡ ok tt → (next : ℕ) → next ≡ past e → ClauseTaken f vars at next
         unfolding read-clauses _>>_ _>>=_ need
         clause-taken k next g = record {
           extent = e;

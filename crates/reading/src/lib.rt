@@ -91,10 +91,6 @@ fn read_clause(formula: &[u8], c: Cursor, vars: usize, t: &mut [u8]) -> ClauseRe
             reason: Reason::FormulaTwice,
             place,
         },
-        ClauseCheck::Long => ClauseRead::Bad {
-            reason: Reason::ClauseLong,
-            place: at,
-        },
     }
 }
 

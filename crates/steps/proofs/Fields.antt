@@ -94,7 +94,6 @@ lies-if false tag allowed f at e z h q = rw (← x) (record { starts = omega ari
 pub record Lie (f : File) (at : ℕ) (x : Fields) : Type 0 where
   pub tag-from : 0x11 ≤ getD f at 0
   pub tag-to : getD f at 0 ≤ 0x14
-  pub clause-starts : at + 3 ≤ x .clause .start
   pub clause-within : x .clause .start + x .clause .size ≤ length f
   pub witness-within : x .witness .start + x .witness .size ≤ length f
   pub numbers-within : x .numbers .start + x .numbers .size ≤ length f
@@ -105,8 +104,6 @@ pub record Lie (f : File) (at : ℕ) (x : Fields) : Type 0 where
   pub inside : x .next ≤ length f
   -- the new clause is the payload of the field whose tag is the step's
   pub new : getD f at 0 ≢ 0x14 → field ProofField (getD f at 0) even f at ≡ ok (x .clause)
-  pub new-start : getD f at 0 ≢ 0x14 → x .clause .start ≡ at + 3
-  pub no-new : getD f at 0 ≡ 0x14 → x .clause .size ≡ 0
   pub no-numbers : getD f at 0 < 0x13 → x .numbers .size ≡ 0
 
 -- 3. The paper's reading of a step's fields, by what stands at each place. c, w and n are the fields found one after the other.
@@ -163,7 +160,6 @@ module _ (f : File) (at : ℕ) where
               record {
                 tag-from = r .0;
                 tag-to = r .1;
-                clause-starts = omega arith;
                 clause-within = modulo-lies .within;
                 witness-within = modulo-lies .within;
                 numbers-within = clause-lies .within;
@@ -173,8 +169,6 @@ module _ (f : File) (at : ℕ) where
                 further = omega arith;
                 inside = clause-lies .within;
                 new = λ ne. absurd (ne e);
-                new-start = λ ne. absurd (ne e);
-                no-new = λ _. none;
                 no-numbers = λ l. absurd (omega arith);
               }
 
@@ -188,7 +182,6 @@ module _ (f : File) (at : ℕ) where
               record {
                 tag-from = r .0;
                 tag-to = r .1;
-                clause-starts = omega arith;
                 clause-within = clause-lies .within;
                 witness-within = witness-lies .within;
                 numbers-within = modulo-lies .within;
@@ -198,8 +191,6 @@ module _ (f : File) (at : ℕ) where
                 further = omega arith;
                 inside = modulo-lies .within;
                 new = λ _. hc;
-                new-start = λ _. s;
-                no-new = λ e. absurd (ne e);
                 no-numbers = λ l. modulo-lies .unasked (eqb-other (getD f at 0) 0x13 (omega arith));
               }
 

@@ -43,12 +43,12 @@ module _ (f : File) (vars : ℕ) (F : Formula) (next at : ℕ) where
   fields-refuse r p q = rw (q, read-step)
 
   module _ (x : Fields) (hx : read-fields f at ≡ ok x) where
-    pub clause-refuses : (r : Reason) (p : ℕ) → check-clause ProofCode ProofTwice vars at (clause-of f x) ≡ bad r p
+    pub clause-refuses : (r : Reason) (p : ℕ) → check-clause ProofCode ProofTwice vars (x .clause .start) (clause-of f x) ≡ bad r p
         → read-step f vars F next at ≡ bad r p
     unfolding read-step _>>=_ _>>_
     clause-refuses r p q = rw (hx, read-step) (rw q)
 
-    module _ (hc : check-clause ProofCode ProofTwice vars at (clause-of f x) ≡ ok tt) where
+    module _ (hc : check-clause ProofCode ProofTwice vars (x .clause .start) (clause-of f x) ≡ ok tt) where
       pub mappings-refuse : (r : Reason) (p : ℕ) → check-mappings vars (x .witness .start) (witness-of f x) ≡ bad r p
           → read-step f vars F next at ≡ bad r p
       unfolding read-step _>>=_ _>>_

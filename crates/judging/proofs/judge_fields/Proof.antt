@@ -5,7 +5,7 @@ use native.Mathlib.Omega.{arith}
 use Rattle.paper.specs.declared.Reason.the-variants.{ProofCode}
 use Rattle.steps.proofs.Fields.{lie}
 use Rattle.steps.proofs.Step.{checked-fine, checked-at}
-use Rattle.judging.proofs.Laws.{said-fine, said-range, said-twice, said-long, checkable, clause-stops, mappings-stop, load-asks, twice-stops, twice-left, loadable, unload-asks, brought-back}
+use Rattle.judging.proofs.Laws.{said-fine, said-range, said-twice, checkable, clause-stops, mappings-stop, load-asks, twice-stops, twice-left, loadable, unload-asks, brought-back}
 use Rattle.judging.proofs.judge_fields.Statement.{statement}
 use Rattle.judging.proofs.judge_fields.Tie as tie
 
@@ -25,7 +25,7 @@ returns : tie.Need-returns
 returns c =
     let p = c .before .before .before .before .before .before .before .before .before .before .before .before .before .pre in
     let d = c .before .before .before .before .before .before .check-clause .ensures in
-    (rw (c .stopped .ensures) (clause-stops p (said-range _ _ _ (lie _ _ _ (p .fields)) _ _ (d .0) (c .before .before .place .given .1))), d .1)
+    (rw (c .stopped .ensures) (clause-stops p (said-range _ _ _ _ (d .0) (c .before .before .place .given .1))), d .1)
 
 enum-known-place-2 : tie.Need-enum-known-place-2
 enum-known-place-2 c = search needs
@@ -40,25 +40,10 @@ returns-2 : tie.Need-returns-2
 returns-2 c =
     let p = c .before .before .before .before .before .before .before .before .before .before .before .before .before .pre in
     let d = c .before .before .before .before .before .before .check-clause .ensures in
-    (rw (c .stopped2 .ensures) (clause-stops p (said-twice _ _ _ (lie _ _ _ (p .fields)) _ _ (d .0) (c .before .before .place2 .given .1))), d .1)
+    (rw (c .stopped2 .ensures) (clause-stops p (said-twice _ _ _ _ (d .0) (c .before .before .place2 .given .1))), d .1)
 
 enum-told : tie.Need-enum-told
 enum-told c = search needs
-
-stopped-requires-3 : tie.Need-stopped-requires-3
-stopped-requires-3 c κs = search needs
-
-same-length-3 : tie.Need-same-length-3
-same-length-3 c = search needs
-
-returns-3 : tie.Need-returns-3
-returns-3 c =
-    let p = c .before .before .before .before .before .before .before .before .before .before .before .before .pre in
-    let d = c .before .before .before .before .before .check-clause .ensures in
-    (rw (c .stopped3 .ensures) (clause-stops p (said-long _ _ _ (lie _ _ _ (p .fields)) _ _ (d .0) (c .before .enum-told .given .1))), d .1)
-
-enum-told-2 : tie.Need-enum-told-2
-enum-told-2 c = search needs
 
 check-mappings-requires : tie.Need-check-mappings-requires
 check-mappings-requires c κs =
@@ -69,21 +54,21 @@ check-mappings-requires c κs =
 enum-known-place-3 : tie.Need-enum-known-place-3
 enum-known-place-3 c = search needs
 
-stopped-requires-4 : tie.Need-stopped-requires-4
-stopped-requires-4 c κs = search needs
+stopped-requires-3 : tie.Need-stopped-requires-3
+stopped-requires-3 c κs = search needs
 
-same-length-4 : tie.Need-same-length-4
-same-length-4 c = search needs
+same-length-3 : tie.Need-same-length-3
+same-length-3 c = search needs
 
-returns-4 : tie.Need-returns-4
-returns-4 c =
+returns-3 : tie.Need-returns-3
+returns-3 c =
     let p = c .before .before .before .before .before .before .before .before .before .before .before .before .before .before .before .before .before .pre in
     let d = c .before .before .before .before .before .before .before .before .before .before .check-clause .ensures in
-    let fine = said-fine _ _ _ (lie _ _ _ (p .fields)) _ _ (d .0) (c .before .before .before .before .before .before .enum-told2 .given .1) in
-    (rw (c .stopped4 .ensures) (mappings-stop p fine (checked-at ProofCode _ _ (c .before .before .before .before .check-mappings .ensures) _ (c .before .before .place3 .given .1))), d .1)
+    let fine = said-fine _ _ _ _ (d .0) (c .before .before .before .before .before .before .enum-told .given .1) in
+    (rw (c .stopped3 .ensures) (mappings-stop p fine (checked-at ProofCode _ _ (c .before .before .before .before .check-mappings .ensures) _ (c .before .before .place3 .given .1))), d .1)
 
-enum-told-3 : tie.Need-enum-told-3
-enum-told-3 c = search needs
+enum-told-2 : tie.Need-enum-told-2
+enum-told-2 c = search needs
 
 part-requires : tie.Need-part-requires
 part-requires c κs = let i = lie _ _ _ (c .before .before .before .before .before .before .before .before .before .before .before .before .before .before .before .pre .fields) in i .witness-within
@@ -92,8 +77,8 @@ load-witness-requires : tie.Need-load-witness-requires
 load-witness-requires c κs =
     let p = c .before .before .before .before .before .before .before .before .before .before .before .before .before .before .before .before .before .pre in
     let d = c .before .before .before .before .before .before .before .before .before .before .check-clause .ensures in
-    let fine = said-fine _ _ _ (lie _ _ _ (p .fields)) _ _ (d .0) (c .before .before .before .before .before .before .enum-told2 .given .1) in
-    let mapped = checked-fine ProofCode _ _ (c .before .before .before .before .check-mappings .ensures) (c .before .before .enum-told3 .given .1) in
+    let fine = said-fine _ _ _ _ (d .0) (c .before .before .before .before .before .before .enum-told .given .1) in
+    let mapped = checked-fine ProofCode _ _ (c .before .before .before .before .check-mappings .ensures) (c .before .before .enum-told2 .given .1) in
     load-asks p fine mapped _ (c .before .part .ensures) _ (d .1)
 
 enum-known-i : tie.Need-enum-known-i
@@ -106,56 +91,56 @@ add-stopped c =
     let h = c .before .before .before .before .before .before .load-witness .ensures .1 .0 _ (c .before .before .i .given .1) in
     omega (arith, i .witness-within, p .ready .proof-short)
 
-stopped-requires-5 : tie.Need-stopped-requires-5
-stopped-requires-5 c κs = search needs
+stopped-requires-4 : tie.Need-stopped-requires-4
+stopped-requires-4 c κs = search needs
+
+same-length-4 : tie.Need-same-length-4
+same-length-4 c = search needs
+
+returns-4 : tie.Need-returns-4
+returns-4 c =
+    let p = c .before .before .before .before .before .before .before .before .before .before .before .before .before .before .before .before .before .before .before .before .before .before .before .before .before .pre in
+    let d = c .before .before .before .before .before .before .before .before .before .before .before .before .before .before .before .before .before .before .check-clause .ensures in
+    let fine = said-fine _ _ _ _ (d .0) (c .before .before .before .before .before .before .before .before .before .before .before .before .before .before .enum-told .given .1) in
+    let mapped = checked-fine ProofCode _ _ (c .before .before .before .before .before .before .before .before .before .before .before .before .check-mappings .ensures) (c .before .before .before .before .before .before .before .before .before .before .enum-told2 .given .1) in
+    let l = c .before .before .before .before .before .before .before .load-witness .ensures in (
+      rw (c .stopped4 .ensures) (twice-stops p fine mapped _ (c .before .before .before .before .before .before .before .before .before .part .ensures) _ (l .0) _ _ (d .1) (l .1 .1) _ (c .before .before .before .i .given .1)),
+      twice-left p fine mapped _ (c .before .before .before .before .before .before .before .before .before .part .ensures) _ (l .0) _ _ (d .1) (l .1 .1) _ (c .before .before .before .i .given .1),
+    )
+
+enum-told-3 : tie.Need-enum-told-3
+enum-told-3 c = search needs
+
+judge-loaded-requires : tie.Need-judge-loaded-requires
+judge-loaded-requires c κs =
+    let p = c .before .before .before .before .before .before .before .before .before .before .before .before .before .before .before .before .before .before .before .before .before .before .before .pre in
+    let d = c .before .before .before .before .before .before .before .before .before .before .before .before .before .before .before .before .check-clause .ensures in
+    let fine = said-fine _ _ _ _ (d .0) (c .before .before .before .before .before .before .before .before .before .before .before .before .enum-told .given .1) in
+    let mapped = checked-fine ProofCode _ _ (c .before .before .before .before .before .before .before .before .before .before .check-mappings .ensures) (c .before .before .before .before .before .before .before .before .enum-told2 .given .1) in
+    let l = c .before .before .before .before .before .load-witness .ensures in
+    loadable p fine mapped _ (c .before .before .before .before .before .before .before .part .ensures) _ (l .0) _ _ (d .1) (l .1 .1) (c .before .enum-told3 .given .1)
+
+unload-witness-requires : tie.Need-unload-witness-requires
+unload-witness-requires c κs =
+    let p = c .before .before .before .before .before .before .before .before .before .before .before .before .before .before .before .before .before .before .before .before .before .before .before .before .before .before .before .pre in
+    let d = c .before .before .before .before .before .before .before .before .before .before .before .before .before .before .before .before .before .before .before .before .check-clause .ensures in
+    let fine = said-fine _ _ _ _ (d .0) (c .before .before .before .before .before .before .before .before .before .before .before .before .before .before .before .before .enum-told .given .1) in
+    let mapped = checked-fine ProofCode _ _ (c .before .before .before .before .before .before .before .before .before .before .before .before .before .before .check-mappings .ensures) (c .before .before .before .before .before .before .before .before .before .before .before .before .enum-told2 .given .1) in
+    let l = c .before .before .before .before .before .before .before .before .before .load-witness .ensures in
+    unload-asks p fine mapped _ (c .before .before .before .before .before .before .before .before .before .before .before .part .ensures) _ (l .0) _ _ (d .1) (l .1 .1) (c .before .before .before .before .before .enum-told3 .given .1) _ (c .before .before .before .judge-loaded .ensures .1)
 
 same-length-5 : tie.Need-same-length-5
 same-length-5 c = search needs
 
 returns-5 : tie.Need-returns-5
 returns-5 c =
-    let p = c .before .before .before .before .before .before .before .before .before .before .before .before .before .before .before .before .before .before .before .before .before .before .before .before .before .pre in
-    let d = c .before .before .before .before .before .before .before .before .before .before .before .before .before .before .before .before .before .before .check-clause .ensures in
-    let fine = said-fine _ _ _ (lie _ _ _ (p .fields)) _ _ (d .0) (c .before .before .before .before .before .before .before .before .before .before .before .before .before .before .enum-told2 .given .1) in
-    let mapped = checked-fine ProofCode _ _ (c .before .before .before .before .before .before .before .before .before .before .before .before .check-mappings .ensures) (c .before .before .before .before .before .before .before .before .before .before .enum-told3 .given .1) in
-    let l = c .before .before .before .before .before .before .before .load-witness .ensures in (
-      rw (c .stopped5 .ensures) (twice-stops p fine mapped _ (c .before .before .before .before .before .before .before .before .before .part .ensures) _ (l .0) _ _ (d .1) (l .1 .1) _ (c .before .before .before .i .given .1)),
-      twice-left p fine mapped _ (c .before .before .before .before .before .before .before .before .before .part .ensures) _ (l .0) _ _ (d .1) (l .1 .1) _ (c .before .before .before .i .given .1),
-    )
-
-enum-told-4 : tie.Need-enum-told-4
-enum-told-4 c = search needs
-
-judge-loaded-requires : tie.Need-judge-loaded-requires
-judge-loaded-requires c κs =
-    let p = c .before .before .before .before .before .before .before .before .before .before .before .before .before .before .before .before .before .before .before .before .before .before .before .pre in
-    let d = c .before .before .before .before .before .before .before .before .before .before .before .before .before .before .before .before .check-clause .ensures in
-    let fine = said-fine _ _ _ (lie _ _ _ (p .fields)) _ _ (d .0) (c .before .before .before .before .before .before .before .before .before .before .before .before .enum-told2 .given .1) in
-    let mapped = checked-fine ProofCode _ _ (c .before .before .before .before .before .before .before .before .before .before .check-mappings .ensures) (c .before .before .before .before .before .before .before .before .enum-told3 .given .1) in
-    let l = c .before .before .before .before .before .load-witness .ensures in
-    loadable p fine mapped _ (c .before .before .before .before .before .before .before .part .ensures) _ (l .0) _ _ (d .1) (l .1 .1) (c .before .enum-told4 .given .1)
-
-unload-witness-requires : tie.Need-unload-witness-requires
-unload-witness-requires c κs =
-    let p = c .before .before .before .before .before .before .before .before .before .before .before .before .before .before .before .before .before .before .before .before .before .before .before .before .before .before .before .pre in
-    let d = c .before .before .before .before .before .before .before .before .before .before .before .before .before .before .before .before .before .before .before .before .check-clause .ensures in
-    let fine = said-fine _ _ _ (lie _ _ _ (p .fields)) _ _ (d .0) (c .before .before .before .before .before .before .before .before .before .before .before .before .before .before .before .before .enum-told2 .given .1) in
-    let mapped = checked-fine ProofCode _ _ (c .before .before .before .before .before .before .before .before .before .before .before .before .before .before .check-mappings .ensures) (c .before .before .before .before .before .before .before .before .before .before .before .before .enum-told3 .given .1) in
-    let l = c .before .before .before .before .before .before .before .before .before .load-witness .ensures in
-    unload-asks p fine mapped _ (c .before .before .before .before .before .before .before .before .before .before .before .part .ensures) _ (l .0) _ _ (d .1) (l .1 .1) (c .before .before .before .before .before .enum-told4 .given .1) _ (c .before .before .before .judge-loaded .ensures .1)
-
-same-length-6 : tie.Need-same-length-6
-same-length-6 c = search needs
-
-returns-6 : tie.Need-returns-6
-returns-6 c =
     let p = c .before .before .before .before .before .before .before .before .before .before .before .before .before .before .before .before .before .before .before .before .before .before .before .before .before .before .before .before .before .before .pre in
     let d = c .before .before .before .before .before .before .before .before .before .before .before .before .before .before .before .before .before .before .before .before .before .before .before .check-clause .ensures in
-    let fine = said-fine _ _ _ (lie _ _ _ (p .fields)) _ _ (d .0) (c .before .before .before .before .before .before .before .before .before .before .before .before .before .before .before .before .before .before .before .enum-told2 .given .1) in
-    let mapped = checked-fine ProofCode _ _ (c .before .before .before .before .before .before .before .before .before .before .before .before .before .before .before .before .before .check-mappings .ensures) (c .before .before .before .before .before .before .before .before .before .before .before .before .before .before .before .enum-told3 .given .1) in
+    let fine = said-fine _ _ _ _ (d .0) (c .before .before .before .before .before .before .before .before .before .before .before .before .before .before .before .before .before .before .before .enum-told .given .1) in
+    let mapped = checked-fine ProofCode _ _ (c .before .before .before .before .before .before .before .before .before .before .before .before .before .before .before .before .before .check-mappings .ensures) (c .before .before .before .before .before .before .before .before .before .before .before .before .before .before .before .enum-told2 .given .1) in
     let l = c .before .before .before .before .before .before .before .before .before .before .before .before .load-witness .ensures in (
       c .before .before .before .before .before .before .judge-loaded .ensures .0,
-      brought-back p fine mapped _ (c .before .before .before .before .before .before .before .before .before .before .before .before .before .before .part .ensures) _ (l .0) _ _ (d .1) (l .1 .1) (c .before .before .before .before .before .before .before .before .enum-told4 .given .1) _ (c .before .before .before .before .before .before .judge-loaded .ensures .1) _ (c .before .before .unload-witness .ensures),
+      brought-back p fine mapped _ (c .before .before .before .before .before .before .before .before .before .before .before .before .before .before .part .ensures) _ (l .0) _ _ (d .1) (l .1 .1) (c .before .before .before .before .before .before .before .before .enum-told3 .given .1) _ (c .before .before .before .before .before .before .judge-loaded .ensures .1) _ (c .before .before .unload-witness .ensures),
     )
 
 pub judge-fields-spec : {M : Type 1} → statement M
@@ -172,25 +157,21 @@ judge-fields-spec =
     same-length-2
     returns-2
     enum-told
+    check-mappings-requires
+    enum-known-place-3
     stopped-requires-3
     same-length-3
     returns-3
     enum-told-2
-    check-mappings-requires
-    enum-known-place-3
-    stopped-requires-4
-    same-length-4
-    returns-4
-    enum-told-3
     part-requires
     load-witness-requires
     enum-known-i
     add-stopped
-    stopped-requires-5
-    same-length-5
-    returns-5
-    enum-told-4
+    stopped-requires-4
+    same-length-4
+    returns-4
+    enum-told-3
     judge-loaded-requires
     unload-witness-requires
-    same-length-6
-    returns-6)
+    same-length-5
+    returns-5)

@@ -48,9 +48,6 @@ enum-known-place c = search needs
 enum-known-place-2 : tie.Need-enum-known-place-2
 enum-known-place-2 c = search needs
 
-enum-told-3 : tie.Need-enum-told-3
-enum-told-3 c = search needs
-
 same-length : tie.Need-same-length
 same-length c = search needs
 
@@ -77,7 +74,7 @@ returns-3 c =
 -- the clause is refused where the check's answer says so
 refused : (k : tie.After-check-clause) (s : ClauseCheck) (reason : Reason) (p : ℕ) → k .check-clause .result ≡ s →
     let a = k .before .before .before .before .before .before .before .before .before .args in
-    clauseSaid FormulaCode FormulaTwice (a .c .at) s ≡ bad reason p → (m n : ℕ) → read-clauses (a .formula .now) (a .vars) (suc m) n (a .c .at) ≡ bad reason p
+    clauseSaid FormulaCode FormulaTwice s ≡ bad reason p → (m n : ℕ) → read-clauses (a .formula .now) (a .vars) (suc m) n (a .c .at) ≡ bad reason p
 refused k s reason p same q =
     let e = k .before .before .before in
     let x = e .before .before in
@@ -112,15 +109,6 @@ returns-5 c =
     let k = o .before .before .before .before in
     (refused k _ _ _ (o .place2 .given .1) refl, k .check-clause .ensures .1)
 
-same-length-4 : tie.Need-same-length-4
-same-length-4 c = search needs
-
-returns-6 : tie.Need-returns-6
-unfolding clauseSaid
-returns-6 c =
-    let k = c .before .before .before .before in
-    (refused k _ _ _ (c .enum-told3 .given .1) refl, k .check-clause .ensures .1)
-
 pub read-clause-spec : {M : Type 1} → statement M
 read-clause-spec =
     tie.close
@@ -134,12 +122,9 @@ read-clause-spec =
     enum-told-2
     enum-known-place
     enum-known-place-2
-    enum-told-3
     same-length
     returns-3
     same-length-2
     returns-4
     same-length-3
-    returns-5
-    same-length-4
-    returns-6)
+    returns-5)
