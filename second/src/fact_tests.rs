@@ -47,6 +47,7 @@ fn broken_facts_are_seen() {
         (one, not_rup, RUP, "refused 15 2 5", "its condition"),
         (one, not_rup, RUP, "held 0 1 0", "ends before"),
         (one, not_rup, RUP, "held 0 3 0 memory", "not an answer"),
+        (one, not_rup, LONGER, "refused 16 3 0", "not an answer"),
     ];
     for (literals, right, index, line, message) in wrong {
         let group = group_of(literals);

@@ -20,6 +20,9 @@ pub const MOST_M: u32 = 16_383;
 pub const MOST_NUMBER: u32 = 16_383;
 pub const MOST_FILE: usize = 1_048_576;
 
+/// The reasons of the table. 16 is struck and its number stays unused (02, §6).
+pub const REASONS: &[u8] = &[1, 2, 3, 4, 5, 6, 7, 8, 9, 10, 11, 12, 13, 14, 15];
+
 /// A reason of the table with its place; the step is known to the caller.
 #[derive(Clone, Copy, Debug, PartialEq, Eq)]
 pub struct Fault {
@@ -33,7 +36,6 @@ pub fn fault<T>(reason: u8, place: usize) -> Result<T, Fault> {
 
 /// "one byte tag, two bytes length (high byte first), then that many bytes"
 struct Field {
-    at: usize,
     tag: u8,
     /// The payload in twos, each with its offset in the file.
     twos: Vec<(usize, u32)>,
@@ -66,21 +68,18 @@ fn field(file: &[u8], at: usize, tags: &[u8]) -> Option<Field> {
     }
     let twos = (at + 3..end).step_by(2).map(|p| (p, two(file, p)));
     let twos = twos.collect();
-    Some(Field { at, tag, twos, end })
+    Some(Field { tag, twos, end })
 }
 
-/// A clause's codes: first the codes outside "2 to 2V+1", then the "variable twice", then "more than V literals".
-fn clause_of(field: &Field, v: u32, outside: u8, twice: u8) -> Result<Clause, Fault> {
-    for &(place, code) in &field.twos {
+/// A clause's codes: first the codes outside "2 to 2V+1", then the "variable twice".
+fn clause_of(twos: &[(usize, u32)], v: u32, outside: u8, twice: u8) -> Result<Clause, Fault> {
+    for &(place, code) in twos {
         if code < 2 || code > 2 * v + 1 {
             return fault(outside, place);
         }
     }
-    first_second(&field.twos, |code| code / 2, twice)?;
-    if field.twos.len() > v as usize {
-        return fault(16, field.at);
-    }
-    Ok(field.twos.iter().map(|&(_, code)| code).collect())
+    first_second(twos, |code| code / 2, twice)?;
+    Ok(twos.iter().map(|&(_, code)| code).collect())
 }
 
 /// "offset of its second code", "offset of the second"; "Within one reason and field the first place counts."
@@ -101,7 +100,7 @@ pub struct Formula {
     pub clauses: Clauses,
 }
 
-/// "In the formula: HEAD 3, 4; for each clause 7 (bytes at an end), 3, 5, 6, 16; after clause m, 7."
+/// "In the formula: HEAD 3, 4; for each clause 7 (bytes at an end), 3, 5, 6, 16; after clause m, 7.", of which 02, §6, strikes the 16.
 pub fn formula(file: &[u8]) -> Result<Formula, Fault> {
     let Some(head) = field(file, 0, &[HEAD]) else {
         return fault(3, 0);
@@ -120,7 +119,7 @@ pub fn formula(file: &[u8]) -> Result<Formula, Fault> {
         let Some(found) = field(file, at, &[CLAUSE]) else {
             return fault(3, at);
         };
-        clauses.insert(number, clause_of(&found, v, 5, 6)?);
+        clauses.insert(number, clause_of(&found.twos, v, 5, 6)?);
         at = found.end;
     }
     if at < file.len() {
@@ -148,7 +147,7 @@ pub struct Step {
     pub end: usize,
 }
 
-/// "In a step: 8 over all its fields; the clause 9, 10, 16; the witness 9, 10; the numbers 11; then 12".
+/// "In a step: 8 over all its fields; the clause 9, 10, 16; the witness 9, 10; the numbers 11; then 12", of which 02, §6, strikes the 16.
 pub fn step(proof: &[u8], at: usize, v: u32, live: &Clauses, next: u32) -> Result<Step, Fault> {
     let Some(first) = field(proof, at, &[RUP, SR, WSR, DELETE]) else {
         return fault(8, at);
@@ -176,7 +175,7 @@ pub fn step(proof: &[u8], at: usize, v: u32, live: &Clauses, next: u32) -> Resul
     let (clause, listed) = if kind == Kind::Delete {
         (Clause::new(), first.twos)
     } else {
-        (clause_of(&first, v, 9, 10)?, modulo)
+        (clause_of(&first.twos, v, 9, 10)?, modulo)
     };
     let witness = witness_of(&pairs, v)?;
     let numbers = numbers_of(&listed, live)?;

@@ -1,7 +1,8 @@
-//! The large pack: both sides of the limits that need large files, long chains and wide clauses.
+//! The large pack: both sides of the limits that need large files, long chains and wide clauses, clauses of V literals and of one more.
 
 use crate::faults;
 use crate::files::{CLAUSE, MOST_FILE};
+use crate::full;
 use crate::judge::{BYTES, WORDS};
 use crate::pack::Case;
 use crate::writer::{code, codes, delete, field, formula_of_codes, head, raw_field, rup, sr, wsr};
@@ -17,6 +18,7 @@ pub fn cases() -> Vec<Case> {
     all.extend(both_long());
     all.extend(too_long_beside_others());
     all.extend(faults::past_the_last_number());
+    all.extend(full::cases());
     all
 }
 

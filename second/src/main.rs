@@ -9,6 +9,9 @@ mod fact_tests;
 mod facts;
 mod faults;
 mod files;
+mod full;
+#[cfg(test)]
+mod full_tests;
 mod groups;
 mod judge;
 mod large;
@@ -204,7 +207,7 @@ fn counts(files: &[&str]) -> Done {
     for file in files {
         lines += &std::fs::read_to_string(file).map_err(|error| error.to_string())?;
     }
-    let counts = pack::counts(&lines);
+    let counts = pack::counts(&lines)?;
     for (key, count) in &counts {
         println!("{key}: {count}");
     }

@@ -1,5 +1,6 @@
 //! The pack: cases one after another, numbers in four bytes, high byte first, and beside it the expected lines.
 
+use crate::files::REASONS;
 use crate::judge::{judge, Answer, BYTES, WORDS};
 use std::collections::BTreeMap;
 use std::io::{BufWriter, Write};
@@ -70,7 +71,7 @@ pub fn read(mut pack: &[u8]) -> Option<Vec<Case>> {
     Some(cases)
 }
 
-/// The answer that a line says; none of a line that is no answer.
+/// The answer that a line says; none of a line that is no answer, and one with a reason that isn't in the table is none.
 pub fn answer(line: &str) -> Option<Answer> {
     let fields: Vec<&str> = line.split(' ').collect();
     let [verdict, reason, step, place] = fields[..] else {
@@ -81,7 +82,7 @@ pub fn answer(line: &str) -> Option<Answer> {
         "refuted" => Answer::Refuted(steps),
         "held" => Answer::Held(steps),
         _ => Answer::Refused {
-            reason: reason.parse().ok()?,
+            reason: reason.parse().ok().filter(|r| REASONS.contains(r))?,
             step: steps,
             place: place.parse().ok()?,
         },
@@ -90,13 +91,14 @@ pub fn answer(line: &str) -> Option<Answer> {
     Some(answer).filter(|answer| answer.line() == line)
 }
 
-/// How often each verdict and each reason comes up: keys "held", "refuted", "refused 1" and so on.
-pub fn counts(lines: &str) -> BTreeMap<String, usize> {
+/// How often each verdict and each reason comes up: keys "held", "refuted", "refused 1" and so on; the error says which line is no answer.
+pub fn counts(lines: &str) -> Result<BTreeMap<String, usize>, String> {
     let mut counts = BTreeMap::new();
     for line in lines.lines() {
+        answer(line).ok_or_else(|| format!("not an answer: {line}"))?;
         *counts.entry(key(line)).or_insert(0) += 1;
     }
-    counts
+    Ok(counts)
 }
 
 /// What a line is counted under: its verdict, and its reason if it is refused.
@@ -108,8 +110,9 @@ pub fn key(line: &str) -> String {
     }
 }
 
-/// The reasons from 1 to 15 that never come up; 16 can't, since 5, 6, 9 and 10 come before it.
+/// The reasons of the table that never come up.
 pub fn absent(counts: &BTreeMap<String, usize>) -> Vec<u8> {
     let came = |reason: &u8| counts.contains_key(&format!("refused {reason:>2}"));
-    (1..=15).filter(|reason| !came(reason)).collect()
+    let reasons = REASONS.iter().copied();
+    reasons.filter(|reason| !came(reason)).collect()
 }
