@@ -69,7 +69,7 @@ static void remove_clause(struct work *w, size_t n) {
     while (n > 0 && !is_live(w, n - 1)) w->words[--n] = later;
 }
 
-/* What is wrong with a clause's codes: 1 (one out of range) or 2 (a variable twice), with its place; 3 (too many); 0 if nothing is. */
+/* What is wrong with a clause's codes: 1 (one out of range) or 2 (a variable twice), with its place; 0 if nothing is. */
 static int check_clause(const uint8_t *s, struct extent e, size_t vars, uint8_t *t, size_t *place) {
     size_t i, k, end = e.start + e.size;
     for (i = e.start; i < end; i += 2) {
@@ -85,7 +85,7 @@ static int check_clause(const uint8_t *s, struct extent e, size_t vars, uint8_t 
         *place = i;
         return 2;
     }
-    return e.size / 2 > vars ? 3 : 0;
+    return 0;
 }
 
 static struct fault fault(unsigned reason, size_t place) { return (struct fault){reason, place}; }
@@ -104,7 +104,6 @@ static struct fault read_formula(struct work *w) {
         switch (check_clause(f.bytes, e, w->vars, w->t, &place)) {
         case 1: return fault(5, place);
         case 2: return fault(6, place);
-        case 3: return fault(16, at);
         }
         w->words[k] = (uint32_t)(IN_FORMULA + at);
         at = e.start + e.size;
@@ -295,7 +294,6 @@ static struct fault take_step(struct work *w, size_t *at) {
         switch (check_clause(s, c, w->vars, w->t, &place)) {
         case 1: return fault(9, place);
         case 2: return fault(10, place);
-        case 3: return fault(16, *at);
         }
         f = check_mappings(s, witness, w->vars);
         if (!f.reason) f = load_witness(s, witness, w->t);

@@ -22,7 +22,7 @@ use Rattle.paper.specs.Answers.{refused, taken, Judged, stops, not-trivi
 use Rattle.paper.proofs.Lists.{eqb-same, eqb-other, leb-within, leb-beyond}
 use Rattle.paper.proofs.Answering.{steps-once, answer-once}
 
--- "the clause 9, 10": a code out of range is refused first, whatever else is wrong with the clause
+-- "the clause 9, 10 ..": a code out of range is refused first, whatever else is wrong with the clause
 pub range-first : (range twice : Reason) (vars at : ℕ) (C : Clause) (r : Reason) (p : ℕ) → each range (between 2 (2 * vars + 1)) 2 at C ≡ bad r p
     → check-clause range twice vars at C ≡ bad r p
 unfolding check-clause _>>_
@@ -42,7 +42,7 @@ module _ (f : File) (vars at : ℕ) (x : Fields) where
   abbrev of-numbers : Formula → Read (Unit {0})
   of-numbers F = check-numbers F 0 (x .numbers .start) (codes (payload f (x .numbers)))
 
--- "In a step: 8 over all its fields; the clause 9, 10; the witness 9, 10; the numbers 11; then 12": each before the next, whatever that
+-- "In a step: 8 over all its fields; the clause 9, 10 ..; the witness 9, 10; the numbers 11; then 12": each before the next, whatever that
 -- would be refused for.
 module _ (f : File) (vars : ℕ) (F : Formula) (next at : ℕ) (r : Reason) (p : ℕ) where
   pub fields-first : read-fields f at ≡ bad r p → read-step f vars F next at ≡ bad r p

@@ -70,7 +70,7 @@ module _ (P : Reason → Type 0) where
 pub fields-reason : (f : File) (at : ℕ) (r : Reason) (p : ℕ) → read-fields f at ≡ bad r p → r ≡ ProofField
 fields-reason f at r p e = subst (Else (λ q. q ≡ ProofField)) e (else-fields (λ q. q ≡ ProofField) f at refl)
 
--- "In the formula: HEAD 3, 4; for each clause 7 (bytes at an end), 3, 5, 6; after clause m, 7."
+-- "In the formula: HEAD 3, 4; for each clause 7 (bytes at an end), 3, 5, 6 ..; after clause m, 7."
 abbrev pub OfFormula : Reason → Type 0
 OfFormula r = (3 ≤ numberOf r) × (numberOf r ≤ 7)
 
@@ -95,7 +95,7 @@ else-formula f =
 pub formula-reasons : (f : File) (r : Reason) (p : ℕ) → read-formula f ≡ bad r p → OfFormula r
 formula-reasons f r p e = subst (Else OfFormula) e (else-formula f)
 
--- "In a step: 8 over all its fields; the clause 9, 10; the witness 9, 10; the numbers 11; then 12; then 13, or 14 before 15."
+-- "In a step: 8 over all its fields; the clause 9, 10 ..; the witness 9, 10; the numbers 11; then 12; then 13, or 14 before 15."
 abbrev pub OfStep : Reason → Type 0
 OfStep r = (8 ≤ numberOf r) × (numberOf r ≤ 15)
 

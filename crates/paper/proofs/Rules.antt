@@ -276,7 +276,7 @@ end-exactly f vars m n at h = (
   λ e. let b = leb-beyond (suc at) (length f) (omega arith) in rw b,
 )
 
--- "for each clause 7 (bytes at an end), 3, 5, 6": where the file goes on, its field, then its codes (`Order.clause-first`), then the rest
+-- "for each clause 7 (bytes at an end), 3, 5, 6 ..": where the file goes on, its field, then its codes (`Order.clause-first`), then the rest
 pub clauses-none : (f : File) (vars n at : ℕ) → read-clauses f vars zero n at ≡ ok ([], at)
 unfolding read-clauses
 clauses-none f vars n at = refl

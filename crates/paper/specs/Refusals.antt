@@ -33,7 +33,7 @@ check-clause range twice vars p C = do
   each range (between 2 (2 * vars + 1)) 2 p C
   no-two twice [] 2 p (map (λ l. l / 2) C)
 
--- "for each clause 7 (bytes at an end), 3, 5, 6": m clauses, under the numbers from n on, and the place past them
+-- "for each clause 7 (bytes at an end), 3, 5, 6 ..": m clauses, under the numbers from n on, and the place past them
 unfoldable pub read-clauses : File → ℕ → ℕ → ℕ → ℕ → Read (Formula × ℕ)
 read-clauses f vars zero n at = ok ([], at)
 read-clauses f vars (suc m) n at = do
@@ -95,7 +95,7 @@ to-step tag C s ns =
       | false ↦ elim (eqb tag 0x12) [ true ↦ SR-step C s | false ↦ elim (eqb tag 0x13) [ true ↦ WSR-step C s ns | false ↦ DELETE-step ns ] ]
     ]
 
--- "the clause 9, 10; the witness 9, 10; the numbers 11; then 12". The step at a place, and the place past it.
+-- "the clause 9, 10 ..; the witness 9, 10; the numbers 11; then 12". The step at a place, and the place past it.
 unfoldable pub read-step : File → ℕ → Formula → ℕ → ℕ → Read (Step × ℕ)
 read-step f vars F next at = do
   x ← read-fields f at

@@ -16,7 +16,9 @@ enum-known-p c = search needs
 returns : tie.Need-returns
 returns c =
     let d = c .before in
-    (checked-range _ _ _ _ (λ range. d .before .before .first-out-of-range .ensures range ∙ ap (placeSaid range) (d .p .given .1)), refl)
+    let s = d .before .before in
+    let e = s .before .before .before .args .e in
+    (checked-range _ e _ _ (λ range. s .first-out-of-range .ensures range ∙ ap (placeSaid range) (d .p .given .1)), refl)
 
 enum-told : tie.Need-enum-told
 enum-told c = search needs
@@ -42,10 +44,8 @@ same-length c = search needs
 returns-2 : tie.Need-returns-2
 returns-2 c =
     let o = c .before in
-    let v = o .before .before .before .before in (
-      checked-twice _ _ _ (in-range (v .before .before)) _ (λ twice. v .variable-twice .ensures .0 twice ∙ ap (placeSaid twice) (o .p2 .given .1)),
-      v .variable-twice .ensures .1,
-    )
+    let v = o .before .before .before .before in
+    (checked-twice _ _ _ (in-range (v .before .before)) _ (λ twice. v .variable-twice .ensures .0 twice ∙ ap (placeSaid twice) (o .p2 .given .1)), v .variable-twice .ensures .1)
 
 enum-told-2 : tie.Need-enum-told-2
 enum-told-2 c = search needs
@@ -55,10 +55,8 @@ same-length-2 c = search needs
 
 returns-3 : tie.Need-returns-3
 returns-3 c =
-    let v = c .before .before .before .before in (
-      checked-fine _ _ _ (in-range (v .before .before)) (λ twice. v .variable-twice .ensures .0 twice ∙ ap (placeSaid twice) (c .enum-told2 .given .1)),
-      v .variable-twice .ensures .1,
-    )
+    let v = c .before .before .before .before in
+    (checked-fine _ _ _ (in-range (v .before .before)) (λ twice. v .variable-twice .ensures .0 twice ∙ ap (placeSaid twice) (c .enum-told2 .given .1)), v .variable-twice .ensures .1)
 
 pub check-clause-spec : {M : Type 1} → statement M
 check-clause-spec =
