@@ -16,7 +16,7 @@ use Rattle.paper.specs.Valid.{Distinct, Codes, Apart}
 use Rattle.paper.proofs.Lists.{eqb-yes, eqb-no, leb-within, map-out}
 use Rattle.paper.proofs.Rules.{clause-exactly}
 
--- a list of different numbers without the number n
+-- a list of different numbers, without the number n
 abbrev kept : Bool → ℕ → List ℕ → List ℕ → List ℕ
 kept true x xs rest = xs
 kept false x xs rest = x ∷ rest
@@ -69,7 +69,7 @@ map-length : (f : ℕ → ℕ) (C : List ℕ) → length (map f C) ≡ length C
 map-length f [] = refl
 map-length f (x ∷ C) = ap suc (map-length f C)
 
--- the theorem
+-- "no clause has more than V literals"
 pub few-literals : (vars : ℕ) (C : Clause) → Codes vars C → Apart C → length C ≤ vars
 few-literals vars C codes apart =
     let e = map-length (λ l. l / 2) C in
@@ -83,8 +83,8 @@ few-literals vars C codes apart =
         let e = r .2 in
         (omega arith, omega arith)
 
--- and what it says of the tests that formulas and proofs meet: after 5 and 6, or 9 and 10, a count of the literals refuses nothing, whatever
--- its reason and place
+-- what it says of the tests that the clauses of formulas and proofs meet: after 5 and 6, or 9 and 10, "more than V literals" is never so,
+-- whatever its reason and place would be
 pub count-idle : (range twice : Reason) (vars p : ℕ) (C : Clause) (long : Reason) (tag : ℕ)
     → (check-clause range twice vars p C >> need (leb (length C) vars) long tag) ≡ check-clause range twice vars p C
 unfolding need _>>_
