@@ -7,7 +7,7 @@ use mathlib.Core.Bool.{Bool, true, false}
 use mathlib.Core.List.{List, [], _∷_, map, List·Memᴰ·head, List·Memᴰ·tail}
 use native.Mathlib.Omega.{arith}
 use lib.Dec.{eqb, leb}
-use lib.ListN.{length}
+use lib.ListN.{length, length-map}
 use Rattle.paper.specs.declared.Reason.{Reason}
 use Rattle.paper.specs.Atoms.{_∈_, Clause}
 use Rattle.paper.specs.Files.{Read, ok, bad, _>>_, need}
@@ -16,7 +16,7 @@ use Rattle.paper.specs.Valid.{Distinct, Codes, Apart}
 use Rattle.paper.proofs.Lists.{eqb-yes, eqb-no, leb-within, map-out}
 use Rattle.paper.proofs.Rules.{clause-exactly}
 
--- a list of different numbers, without the number n
+-- A list without the first n in it; of different numbers there is no other.
 abbrev kept : Bool → ℕ → List ℕ → List ℕ → List ℕ
 kept true x xs rest = xs
 kept false x xs rest = x ∷ rest
@@ -65,14 +65,10 @@ at-most (suc n) xs d all =
     lower : (x : ℕ) → x ∈ but (suc n) xs → (1 ≤ x) × (x ≤ n)
     lower x m = let r = but-in (suc n) xs d x m in let h = all x (r .0) in let o = r .1 in (h .0, omega arith)
 
-map-length : (f : ℕ → ℕ) (C : List ℕ) → length (map f C) ≡ length C
-map-length f [] = refl
-map-length f (x ∷ C) = ap suc (map-length f C)
-
 -- "no clause has more than V literals"
 pub few-literals : (vars : ℕ) (C : Clause) → Codes vars C → Apart C → length C ≤ vars
 few-literals vars C codes apart =
-    let e = map-length (λ l. l / 2) C in
+    let e = length-map C (λ l. l / 2) in
     let h = at-most vars (map (λ l. l / 2) C) apart variable in
     omega arith
   where

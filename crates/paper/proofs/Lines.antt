@@ -104,7 +104,7 @@ pub reasons-numbered : map numberOf (WorkShort ∷ FileLong ∷ FormulaField ∷
     ≡ 1 ∷ 2 ∷ 3 ∷ 4 ∷ 5 ∷ 6 ∷ 7 ∷ 8 ∷ 9 ∷ 10 ∷ 11 ∷ 12 ∷ 13 ∷ 14 ∷ 15 ∷ []
 reasons-numbered = refl
 
--- "leave its number unused": 16 is no reason's, now or later (02, §6)
+-- "leave its number unused" (02, §6): a reason that comes later is to have its line here
 pub sixteen-unused : (r : Reason) → numberOf r ≢ 16
 sixteen-unused WorkShort = omega arith
 sixteen-unused FileLong = omega arith

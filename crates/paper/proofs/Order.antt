@@ -1,7 +1,7 @@
 -- The order of the refusals, and where a field is refused: facts that a definition with two tests exchanged would not meet.
 -- Assumes nothing.
 use Prim.Native.Nat.{ℕ, suc, _+_, _*_, _≤_, _<_}
-use mathlib.Core.Path.{_≡_, refl}
+use mathlib.Core.Path.{_≡_, refl, sym, subst}
 use mathlib.Core.Logic.{_≢_, _⊎_, inl, inr}
 use mathlib.Core.Bool.{Bool, true, false, _||_}
 use mathlib.Core.List.{[], map}
@@ -21,6 +21,8 @@ use Rattle.paper.specs.Refusals.{each, no-two, between, check-clause, re
 use Rattle.paper.specs.Answers.{refused, taken, Judged, stops, not-trivialised, sr-lowest, Steps, refuted, held, unread, judged, goes-on, Within, Answer, work-short, file-long, formula-bad, proof-judged}
 use Rattle.paper.proofs.Lists.{eqb-same, eqb-other, leb-within, leb-beyond}
 use Rattle.paper.proofs.Answering.{steps-once, answer-once}
+use Rattle.paper.proofs.Reading.{Then}
+use Rattle.paper.proofs.Rules.{field-exactly, new-starts}
 
 -- "the clause 9, 10 ..": a code out of range is refused first, whatever else is wrong with the clause
 pub range-first : (range twice : Reason) (vars at : ℕ) (C : Clause) (r : Reason) (p : ℕ) → each range (between 2 (2 * vars + 1)) 2 at C ≡ bad r p
@@ -50,9 +52,16 @@ module _ (f : File) (vars : ℕ) (F : Formula) (next at : ℕ) (r : Reason) (p :
   fields-first a = rw (a, _>>=_)
 
   module _ (x : Fields) (a : read-fields f at ≡ ok x) where
-    pub step-clause-first : of-clause f vars at x ≡ bad r p → read-step f vars F next at ≡ bad r p
+    -- its first code stands three bytes past the step's tag; a DELETE step has no clause
+    pub step-clause-first : getD f at 0 ≢ 0x14 → check-clause ProofCode ProofTwice vars (at + 3) (codes (payload f (x .clause))) ≡ bad r p
+        → read-step f vars F next at ≡ bad r p
     unfolding read-step _>>=_ _>>_
-    step-clause-first b = rw (a, _>>=_, b, _>>_)
+    step-clause-first t b = rw (a, _>>=_, there, _>>_)
+      where
+        there : of-clause f vars at x ≡ bad r p
+        there =
+            let s = subst (Then (λ (y : Fields). getD f at 0 ≢ 0x14 → y .clause .start ≡ at + 3)) a (new-starts f at) t in
+            subst (λ (q : ℕ). check-clause ProofCode ProofTwice vars q (codes (payload f (x .clause))) ≡ bad r p) (sym s) b
 
     module _ (b : of-clause f vars at x ≡ ok tt) where
       pub witness-first : of-witness f vars at x ≡ bad r p → read-step f vars F next at ≡ bad r p
@@ -89,11 +98,18 @@ module _ (f : File) (vars : ℕ) (F : Formula) (next at : ℕ) (x : Fields) (a :
       enough (inl t) = rw (eqb-same (getD f at 0) 0x14 t)
       enough (inr n) = rw (leb-within (suc next) 16384 n, or-true (eqb (getD f at 0) 0x14))
 
--- "a later damaged field doesn't hide it": a clause of the formula is refused before the next field is looked at
+-- "a later damaged field doesn't hide it": a clause of the formula is refused before the next field is looked at, its first code three bytes
+-- past its tag
 pub clause-first : (f : File) (vars m n at : ℕ) (e : Extent) (r : Reason) (p : ℕ) → ltb at (length f) ≡ true → field FormulaField 0x02 even f at ≡ ok e
-    → check-clause FormulaCode FormulaTwice vars (e .start) (codes (payload f e)) ≡ bad r p → read-clauses f vars (suc m) n at ≡ bad r p
+    → check-clause FormulaCode FormulaTwice vars (at + 3) (codes (payload f e)) ≡ bad r p → read-clauses f vars (suc m) n at ≡ bad r p
 unfolding read-clauses need _>>=_ _>>_
-clause-first f vars m n at e r p a b c = rw (a, need, _>>_, b, _>>=_, c)
+clause-first f vars m n at e r p a b c = rw (a, need, _>>_, b, _>>=_, there)
+  where
+    there : check-clause FormulaCode FormulaTwice vars (e .start) (codes (payload f e)) ≡ bad r p
+    there =
+        let w = (field-exactly FormulaField 0x02 even f at e) .0 b in
+        let place : e .start ≡ at + 3 = omega (arith, w .starts) in
+        subst (λ (q : ℕ). check-clause FormulaCode FormulaTwice vars q (codes (payload f e)) ≡ bad r p) (sym place) c
 
 -- "HEAD 3, 4": HEAD before what it holds
 pub head-first : (f : File) (r : Reason) (p : ℕ) → field FormulaField 0x01 four f 0 ≡ bad r p → read-formula f ≡ bad r p

@@ -40,6 +40,8 @@ rows =
     -- V 128: code 257, which is 2V+1, and 5: code 258; their high byte counts
     ∷ case (0x01 ∷ 0 ∷ 4 ∷ 0 ∷ 128 ∷ 0 ∷ 1 ∷ 0x02 ∷ 0 ∷ 2 ∷ 1 ∷ 1 ∷ []) [] (Held 0)
     ∷ case (0x01 ∷ 0 ∷ 4 ∷ 0 ∷ 128 ∷ 0 ∷ 1 ∷ 0x02 ∷ 0 ∷ 2 ∷ 1 ∷ 2 ∷ []) [] (refused FormulaCode 0 10)
+    -- 5 in clause 2: V 1, code 4
+    ∷ case (0x01 ∷ 0 ∷ 4 ∷ 0 ∷ 1 ∷ 0 ∷ 2 ∷ 0x02 ∷ 0 ∷ 2 ∷ 0 ∷ 2 ∷ 0x02 ∷ 0 ∷ 4 ∷ 0 ∷ 4 ∷ 0 ∷ 2 ∷ []) [] (refused FormulaCode 0 15)
     -- 7: a byte after clause m
     ∷ case (0x01 ∷ 0 ∷ 4 ∷ 0 ∷ 2 ∷ 0 ∷ 1 ∷ 0x02 ∷ 0 ∷ 4 ∷ 0 ∷ 3 ∷ 0 ∷ 5 ∷ 0x02 ∷ []) [] (refused FormulaEnd 0 14)
     -- The steps. 13 of step 1, before step 2, which is damaged
@@ -69,6 +71,8 @@ rows =
     ∷ case F1 (0x12 ∷ 0 ∷ 0 ∷ 0x21 ∷ 0 ∷ 12 ∷ 0 ∷ 1 ∷ 0 ∷ 0 ∷ 0 ∷ 1 ∷ 0 ∷ 0 ∷ 0 ∷ 0 ∷ 0 ∷ 0 ∷ []) (refused ProofCode 1 14)
     -- 10: variable 1 twice in a clause, before 9 of the witness
     ∷ case F1 (0x12 ∷ 0 ∷ 4 ∷ 0 ∷ 2 ∷ 0 ∷ 3 ∷ 0x21 ∷ 0 ∷ 4 ∷ 0 ∷ 0 ∷ 0 ∷ 0 ∷ []) (refused ProofTwice 1 5)
+    -- 10 in step 2: V 1, 1:[1]; RUP [1]; RUP with codes 2 and 3
+    ∷ case (0x01 ∷ 0 ∷ 4 ∷ 0 ∷ 1 ∷ 0 ∷ 1 ∷ 0x02 ∷ 0 ∷ 2 ∷ 0 ∷ 2 ∷ []) (0x11 ∷ 0 ∷ 2 ∷ 0 ∷ 2 ∷ 0x11 ∷ 0 ∷ 4 ∷ 0 ∷ 2 ∷ 0 ∷ 3 ∷ []) (refused ProofTwice 2 10)
     -- 10: variable 1 mapped twice, before 11
     ∷ case F1 (0x13 ∷ 0 ∷ 2 ∷ 0 ∷ 2 ∷ 0x21 ∷ 0 ∷ 8 ∷ 0 ∷ 1 ∷ 0 ∷ 0 ∷ 0 ∷ 1 ∷ 0 ∷ 5 ∷ 0x22 ∷ 0 ∷ 2 ∷ 0 ∷ 2 ∷ []) (refused ProofTwice 1 12)
     -- 11: clause 0; a number not above the one before it

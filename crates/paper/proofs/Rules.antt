@@ -12,6 +12,7 @@ use lib.ListN.{length, getD}
 use Rattle.paper.specs.declared.Reason.{Reason}
 use Rattle.paper.specs.declared.Reason.the-variants.{FormulaField, OverLimit, FormulaCode, FormulaTwice, FormulaEnd, ProofField, ProofCode, NumberNotLive}
 use Rattle.paper.specs.declared.Extent.{Extent}
+use Rattle.paper.specs.declared.Fields.{Fields}
 use Rattle.paper.specs.declared.Verdict.{Verdict}
 use Rattle.paper.specs.declared.Verdict.the-variants.{Refuted, Held, Refused}
 use Rattle.paper.specs.Atoms.{_∈_, Clause, Formula, Live, Witness}
@@ -21,7 +22,7 @@ use Rattle.paper.specs.Refusals.{each, no-two, between, check-clause, re
 use Rattle.paper.specs.Answers.{numberOf, numbersOf, Answer, work-short, file-long, formula-bad, proof-judged}
 use Rattle.paper.specs.Valid.{Distinct, Codes, Apart, Listed}
 use Rattle.paper.proofs.Lists.{eqb-yes, eqb-same, or-yes, leb-yes, leb-no, leb-within, leb-beyond, is-in-yes, is-in-no}
-use Rattle.paper.proofs.Reading.{Reads, reads-bind, reads-seq, reads-need, reads-each, reads-no-two, Then, each-then, no-two-then, check-clause-then, check-mappings-then, check-numbers-then, Ranged}
+use Rattle.paper.proofs.Reading.{Reads, reads-bind, reads-seq, reads-need, reads-each, reads-no-two, Then, then-bind, then-seq, anything, each-then, no-two-then, check-clause-then, check-mappings-then, check-numbers-then, Ranged}
 use Rattle.paper.proofs.Reasons.{OfFormula, formula-reasons, OfSteps, steps-reasons}
 
 -- "HEAD has length 4, code and number lists even length, a WITNESS a multiple of 4"
@@ -405,6 +406,24 @@ module _ (f : File) (at : ℕ) where
         → field ProofField 0x22 even f (past w) ≡ ok n → read-fields f at ≡ ok (record { clause = c; witness = w; numbers = n; next = past n })
     unfolding read-fields field-if between need _>>=_ _>>_
     wsr-fields w n t a b d = rw (t, a, _>>=_, b, d)
+
+-- the first code of a new clause stands three bytes past the step's tag
+pub new-starts : (f : File) (at : ℕ) → Then (λ (x : Fields). getD f at 0 ≢ 0x14 → x .clause .start ≡ at + 3) (read-fields f at)
+unfolding read-fields
+new-starts f at =
+    then-seq _ _ _ _ (anything (need (between 0x11 0x14 (getD f at 0)) ProofField at)) λ _ _.
+    then-bind _ _ _ _ (reads-field (λ q p. Unit {0}) ProofField (getD f at 0) even f at tt) λ c h.
+    then-bind _ _ _ _ (anything (field-if (between 0x12 0x13 (getD f at 0)) 0x21 fours f (past c))) λ w _.
+    then-bind _ _ _ _ (anything (field-if (eqb (getD f at 0) 0x13) 0x22 even f (past w))) λ n _.
+    go c w n (h .starts) (eqb (getD f at 0) 0x14) refl
+  where
+    go : (c w n : Extent) → c .start ≡ at + 3 → (b : Bool) → eqb (getD f at 0) 0x14 ≡ b → getD f at 0 ≢ 0x14
+        → (elim b as (λ _. Fields) [
+          | true ↦ record { clause = n; witness = n; numbers = c; next = past c }
+          | false ↦ record { clause = c; witness = w; numbers = n; next = past n }
+        ]) .clause .start ≡ at + 3
+    go c w n h true e t = absurd (t (eqb-yes (getD f at 0) 0x14 e))
+    go c w n h false e t = h
 
 -- "0x11 RUP step, 0x12 SR step, 0x13 WSR step, 0x14 DELETE step"
 pub steps-by-tag : (C : Clause) (s : Witness) (ns : List ℕ) → (to-step 0x11 C s ns ≡ RUP-step C) × (to-step 0x12 C s ns ≡ SR-step C s)

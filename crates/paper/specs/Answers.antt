@@ -17,8 +17,8 @@ use Rattle.paper.specs.Conditions.{RUP, Trivialises, Passes, SR, WSR, Lo
 use Rattle.paper.specs.Stowages.{Stowage, carried}
 use Rattle.paper.specs.Refusals.{read-formula, read-step}
 
--- the reasons by their numbers in the paper's table; 16 is none: "strike reason 16 from the table and the order, and leave its number
--- unused" (02, §6)
+-- the reasons by their numbers in the paper's table. 02, §6: "strike reason 16 from the table and the order, and leave its number unused",
+-- so that those of 02, 17 and on, keep theirs
 abbrev pub numberOf : Reason → ℕ
 numberOf WorkShort = 1
 numberOf FileLong = 2

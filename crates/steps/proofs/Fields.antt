@@ -155,8 +155,6 @@ module _ (f : File) (at : ℕ) where
               let other : getD f at 0 ≢ 0x13 = omega arith in
               let none : n .size ≡ 0 = modulo-lies .unasked (eqb-other (getD f at 0) 0x13 other) in
               let s = clause-lies .start in
-              let u = witness-lies .starts in
-              let v = modulo-lies .starts in
               record {
                 tag-from = r .0;
                 tag-to = r .1;
