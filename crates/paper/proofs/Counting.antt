@@ -16,7 +16,7 @@ use Rattle.paper.specs.Valid.{Distinct, Codes, Apart}
 use Rattle.paper.proofs.Lists.{eqb-yes, eqb-no, leb-within, map-out}
 use Rattle.paper.proofs.Rules.{clause-exactly}
 
--- A list without the first n in it; of different numbers there is no other.
+-- a list without the first n in it; in one of different numbers there is no second
 abbrev kept : Bool → ℕ → List ℕ → List ℕ → List ℕ
 kept true x xs rest = xs
 kept false x xs rest = x ∷ rest

@@ -25,13 +25,13 @@ use Rattle.paper.proofs.Reading.{Then}
 use Rattle.paper.proofs.Rules.{field-exactly, new-starts}
 
 -- "the clause 9, 10 ..": a code out of range is refused first, whatever else is wrong with the clause
-pub range-first : (range twice : Reason) (vars at : ℕ) (C : Clause) (r : Reason) (p : ℕ) → each range (between 2 (2 * vars + 1)) 2 at C ≡ bad r p
-    → check-clause range twice vars at C ≡ bad r p
+pub range-first : (range twice : Reason) (vars start : ℕ) (C : Clause) (r : Reason) (p : ℕ) → each range (between 2 (2 * vars + 1)) 2 start C ≡ bad r p
+    → check-clause range twice vars start C ≡ bad r p
 unfolding check-clause _>>_
-range-first range twice vars at C r p e = rw (e, _>>_)
+range-first range twice vars start C r p e = rw (e, _>>_)
 
 -- The checks of a step whose fields are read: its clause; its witness's variables and atoms; a variable mapped twice; its numbers.
-module _ (f : File) (vars at : ℕ) (x : Fields) where
+module _ (f : File) (vars : ℕ) (x : Fields) where
   abbrev of-clause : Read (Unit {0})
   of-clause = check-clause ProofCode ProofTwice vars (x .clause .start) (codes (payload f (x .clause)))
 
@@ -58,28 +58,28 @@ module _ (f : File) (vars : ℕ) (F : Formula) (next at : ℕ) (r : Reason) (p :
     unfolding read-step _>>=_ _>>_
     step-clause-first t b = rw (a, _>>=_, there, _>>_)
       where
-        there : of-clause f vars at x ≡ bad r p
+        there : of-clause f vars x ≡ bad r p
         there =
             let s = subst (Then (λ (y : Fields). getD f at 0 ≢ 0x14 → y .clause .start ≡ at + 3)) a (new-starts f at) t in
             subst (λ (q : ℕ). check-clause ProofCode ProofTwice vars q (codes (payload f (x .clause))) ≡ bad r p) (sym s) b
 
-    module _ (b : of-clause f vars at x ≡ ok tt) where
-      pub witness-first : of-witness f vars at x ≡ bad r p → read-step f vars F next at ≡ bad r p
+    module _ (b : of-clause f vars x ≡ ok tt) where
+      pub witness-first : of-witness f vars x ≡ bad r p → read-step f vars F next at ≡ bad r p
       unfolding read-step _>>=_ _>>_
       witness-first c = rw (a, _>>=_, b, _>>_, c)
 
-      module _ (c : of-witness f vars at x ≡ ok tt) where
-        pub twice-first : of-twice f vars at x ≡ bad r p → read-step f vars F next at ≡ bad r p
+      module _ (c : of-witness f vars x ≡ ok tt) where
+        pub twice-first : of-twice f vars x ≡ bad r p → read-step f vars F next at ≡ bad r p
         unfolding read-step _>>=_ _>>_
         twice-first d = rw (a, _>>=_, b, _>>_, c, d)
 
-        pub numbers-first : of-twice f vars at x ≡ ok tt → of-numbers f vars at x F ≡ bad r p → read-step f vars F next at ≡ bad r p
+        pub numbers-first : of-twice f vars x ≡ ok tt → of-numbers f vars x F ≡ bad r p → read-step f vars F next at ≡ bad r p
         unfolding read-step _>>=_ _>>_
         numbers-first d e = rw (a, _>>=_, b, _>>_, c, d, e)
 
 -- 12: exactly a clause that "would get number 16,384", that is, of a step that is no DELETE; else the step is read
-module _ (f : File) (vars : ℕ) (F : Formula) (next at : ℕ) (x : Fields) (a : read-fields f at ≡ ok x) (b : of-clause f vars at x ≡ ok tt)
-    (c : of-witness f vars at x ≡ ok tt) (d : of-twice f vars at x ≡ ok tt) (e : of-numbers f vars at x F ≡ ok tt) where
+module _ (f : File) (vars : ℕ) (F : Formula) (next at : ℕ) (x : Fields) (a : read-fields f at ≡ ok x) (b : of-clause f vars x ≡ ok tt)
+    (c : of-witness f vars x ≡ ok tt) (d : of-twice f vars x ≡ ok tt) (e : of-numbers f vars x F ≡ ok tt) where
   pub used-up : getD f at 0 ≢ 0x14 → 16384 ≤ next → read-step f vars F next at ≡ bad NumbersUsedUp at
   unfolding read-step need _>>=_ _>>_
   used-up t n = rw (a, _>>=_, b, _>>_, c, d, e, eqb-other (getD f at 0) 0x14 t, leb-beyond (suc next) 16384 (omega arith))

@@ -18,7 +18,7 @@ use Rattle.paper.specs.Stowages.{Stowage, carried}
 use Rattle.paper.specs.Refusals.{read-formula, read-step}
 
 -- the reasons by their numbers in the paper's table. 02, §6: "strike reason 16 from the table and the order, and leave its number unused",
--- so that those of 02, 17 and on, keep theirs
+-- and 02's own begin at 17
 abbrev pub numberOf : Reason → ℕ
 numberOf WorkShort = 1
 numberOf FileLong = 2

@@ -27,7 +27,7 @@ unfoldable pub between : ℕ → ℕ → ℕ → Bool
 between low high x = leb low x && leb x high
 
 -- A clause, and the place of its first code. 5 and 9: "code outside 2 to 2V+1"; 6 and 10: "variable twice in a clause", at "its
--- second code". 02, §6: "with codes in range and no variable twice, no clause has more than V literals", so 16 is not asked.
+-- second code". 02, §6: "with codes in range and no variable twice, no clause has more than V literals", so there is no test for 16.
 unfoldable pub check-clause : Reason → Reason → ℕ → ℕ → Clause → Read (Unit {0})
 check-clause range twice vars p C = do
   each range (between 2 (2 * vars + 1)) 2 p C
