@@ -10,7 +10,7 @@ use lib.Dec.{ltb}
 use Rattle.paper.specs.declared.Reason.{Reason}
 use Rattle.paper.specs.declared.Reason.the-variants.{WorkShort, FileLong, FormulaField, OverLimit, FormulaCode, FormulaTwice, FormulaEnd, ProofField, ProofCode, ProofTwice, NumberNotLive, NumbersUsedUp, NotRup, NotTrivialised, NotPassing}
 use Rattle.paper.specs.declared.Verdict.{Verdict}
-use Rattle.paper.specs.declared.Verdict.the-variants.{Refuted, Held}
+use Rattle.paper.specs.declared.Verdict.the-variants.{Refuted, Held, Refused}
 use Rattle.paper.specs.Atoms.{_∈_}
 use Rattle.paper.specs.Answers.{numberOf, numbersOf, refused}
 use Rattle.paper.specs.Line.{digits, word, line}
@@ -121,6 +121,12 @@ sixteen-unused NumbersUsedUp = omega arith
 sixteen-unused NotRup = omega arith
 sixteen-unused NotTrivialised = omega arith
 sixteen-unused NotPassing = omega arith
+
+-- so no answer carries it, and no line says it
+pub never-sixteen : (v : Verdict) → numbersOf v .reason ≢ 16
+never-sixteen (Refuted n) = omega arith
+never-sixteen (Held n) = omega arith
+never-sixteen (Refused f) = sixteen-unused (f .reason)
 
 -- the verdict as 0 refuted, 1 held, 2 refused, with the reason's number
 pub verdicts-numbered : (n p : ℕ) (r : Reason) → (numbersOf (Refuted n) ≡ record { verdict = 0; reason = 0; step = n; place = 0 })
