@@ -61,7 +61,8 @@ module _ (f : File) (vars : ℕ) (F : Formula) (next at : ℕ) (r : Reason) (p :
         there : of-clause f vars x ≡ bad r p
         there =
             let s = subst (Then (λ (y : Fields). getD f at 0 ≢ 0x14 → y .clause .start ≡ at + 3)) a (new-starts f at) t in
-            subst (λ (q : ℕ). check-clause ProofCode ProofTwice vars q (codes (payload f (x .clause))) ≡ bad r p) (sym s) b
+            let place : x .clause .start ≡ at + 3 = omega (arith, s) in
+            subst (λ (q : ℕ). check-clause ProofCode ProofTwice vars q (codes (payload f (x .clause))) ≡ bad r p) (sym place) b
 
     module _ (b : of-clause f vars x ≡ ok tt) where
       pub witness-first : of-witness f vars x ≡ bad r p → read-step f vars F next at ≡ bad r p
