@@ -1,4 +1,6 @@
 // The whole of a call whose work memory is long enough: both files' lengths, the formula, then the steps.
+#![tactic(auto)]
+
 ghost use Rattle.std.specs.Prelude.{◌≡◌, ℕ, ◌≤◌, length, replicate};
 ghost use Rattle.paper.specs.Answers.{Answer, Steps, refused};
 ghost use Rattle.lookup.specs.Live.{live};

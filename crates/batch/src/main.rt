@@ -1,5 +1,7 @@
 // Answers a pack of cases, a line for each. A pack is cases to the end of standard input, each of them four numbers of four bytes, high
 // byte first: words lent, bytes lent, length of the formula, length of the proof; then the formula, then the proof.
+#![tactic(auto)]
+
 ghost use Rattle.std.specs.Prelude.{◌+◌, ◌≤◌, ◌<◌, length};
 
 use libc::STDOUT_FILENO;

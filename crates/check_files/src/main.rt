@@ -1,4 +1,6 @@
 // The check program: reads the two files that its arguments name, and prints the line of the answer. All that matters is below it.
+#![tactic(auto)]
+
 ghost use Rattle.std.specs.Prelude.{◌≤◌, length};
 
 use libc::STDOUT_FILENO;

@@ -1,4 +1,6 @@
 // The checker: formula bytes, proof bytes and lent work memory in, one answer out. Nothing is asked of any of them.
+#![tactic(auto)]
+
 ghost use Rattle.std.specs.Prelude.{◌≡◌, length};
 ghost use Rattle.paper.specs.Answers.{Answer, memory_after, refused};
 

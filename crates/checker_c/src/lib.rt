@@ -1,4 +1,6 @@
 // The checker for C and Rust: the answer goes into four numbers that the caller lends.
+#![tactic(auto)]
+
 ghost use Rattle.std.specs.Prelude.{◌≡◌, length};
 ghost use Rattle.checker_c.specs.Told.{listed, Told};
 

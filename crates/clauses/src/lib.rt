@@ -1,5 +1,7 @@
 // The checks of one clause's codes: each stands for a variable 1 to V or its complement, and no variable stands twice. One that does
 // is found by marks in the table of the variables, which are cleared again.
+#![tactic(auto)]
+
 ghost use Rattle.std.specs.Prelude.{◌≡◌, [], ◌+◌, ◌*◌, ◌%◌, ◌≤◌, length};
 ghost use Rattle.paper.specs.declared.Reason.{Reason};
 ghost use Rattle.paper.specs.Files.{payload, codes};

@@ -1,4 +1,6 @@
 // What the check program prints of two files.
+#![tactic(auto)]
+
 ghost use Rattle.cli.specs.Printed.{Printed};
 
 use line::Line;

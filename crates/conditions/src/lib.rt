@@ -1,5 +1,7 @@
 // The questions behind a step: whether a clause is RUP, whether one passes, and which is the lowest that does not. The table is
 // lent with the witness's images in it and no value, and comes back as it was.
+#![tactic(auto)]
+
 ghost use Rattle.std.specs.Prelude.{◌≡◌, ◌≤◌, length, drop};
 ghost use Rattle.paper.specs.Atoms.{Witness};
 ghost use Rattle.paper.specs.Files.{codes};

@@ -1,5 +1,7 @@
 // A file is a run of fields: one byte tag, two bytes length (high byte first), then that many bytes.
 // The reading place is a cursor by value; its method reads one field and hands back the next cursor.
+#![tactic(auto)]
+
 ghost use Rattle.std.specs.Prelude.{◌≡◌, ◌+◌, ◌<◌, length};
 ghost use Rattle.paper.specs.declared.Reason.{Reason};
 ghost use Rattle.paper.specs.Files.{two, field};

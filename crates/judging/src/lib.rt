@@ -1,4 +1,6 @@
 // One step of a proof: its fields read, checked in the paper's order, judged, and taken into the clause table.
+#![tactic(auto)]
+
 ghost use Rattle.std.specs.Prelude.{◌≡◌, ℕ, ◌+◌, ◌≤◌, length};
 ghost use Rattle.paper.specs.Files.{payload};
 ghost use Rattle.lookup.specs.Live.{live};

@@ -1,4 +1,6 @@
 // The line that the check program prints, as bytes.
+#![tactic(auto)]
+
 ghost use Rattle.std.specs.Prelude.{◌≡◌, ◌+◌, ◌≤◌, ◌<◌, ◌∷◌, ◌++◌, length, drop};
 ghost use Rattle.paper.specs.Line.{digits, word, line};
 ghost use Rattle.line.specs.Put.{Put, Holds};

@@ -1,5 +1,7 @@
 // Literals assumed in the table of the variables: the complements of a new clause's literals, and those of the images of
 // another clause's literals, which finds on the way whether the witness trivialises that clause; and their variables unset again.
+#![tactic(auto)]
+
 ghost use Rattle.std.specs.Prelude.{◌≡◌, ℕ, ◌≤◌, length};
 ghost use Rattle.paper.specs.Atoms.{Witness};
 ghost use Rattle.paper.specs.Files.{codes};

@@ -1,5 +1,7 @@
 // The clause table by number: one word for each clause number. The word of a live clause is 1,048,576 (it stands in the formula)
 // or 2,097,152 (in the proof) plus the offset of the clause's tag in that file. Any word below tells at which number to go on.
+#![tactic(auto)]
+
 ghost use Rattle.std.specs.Prelude.{◌≡◌, ◌+◌, ◌≤◌, ◌<◌, length, get_or, set};
 ghost use Rattle.paper.specs.Files.{two, payload};
 ghost use Rattle.field.specs.Field.{extent_at};

@@ -1,5 +1,7 @@
 // A WITNESS field's payload is pairs: variable, code of its atom. Its mappings are written into the table of the variables,
 // which finds a variable that is mapped twice on the way, and cleared from it after the step.
+#![tactic(auto)]
+
 ghost use Rattle.std.specs.Prelude.{◌≡◌, [], ℕ, ◌%◌, ◌<◌, ◌≤◌, length};
 ghost use Rattle.paper.specs.declared.Reason.{Reason};
 ghost use Rattle.paper.specs.Files.{codes, mappings};

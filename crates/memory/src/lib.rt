@@ -1,4 +1,6 @@
 // Work memory is left zero.
+#![tactic(auto)]
+
 ghost use Rattle.std.specs.Prelude.{◌≡◌, length, replicate};
 
 pub fn zero_words(w: &mut [u32])

@@ -15,7 +15,7 @@ use Rattle.paper.proofs.Answering.{same_read}
 use Rattle.paper.proofs.Soundness.{wsr_sound, sr_sound, rup_step_sound, delete_sound, empty_refutes}
 
 -- one step
-pub step_carries : {F G : Formula} {next m : ℕ} {t : Step} → Judged F next t (taken G m) → (I : Stowage) → Meets I F → Meets (stowed t I) G
+pub step_carries : {F : Formula} {next : ℕ} {G : Formula} {m : ℕ} {t : Step} → Judged F next t (taken G m) → (I : Stowage) → Meets I F → Meets (stowed t I) G
 unfolding stowed
 step_carries {F} {next} (rup {C} r) I meets = rup_step_sound I F C next r meets
 step_carries {F} {next} (sr {C} {s} r) I meets = sr_sound I F C s next r meets

@@ -106,7 +106,7 @@ map_out f [] m = elim m [ ]
 map_out f (x ∷ C) (Memᴰ.head e) = (x, Memᴰ.head refl, e)
 map_out f (x ∷ C) (Memᴰ.tail m) = let r = map_out f C m in (r.0, Memᴰ.tail r.1, r.2)
 
-pub map_in : (f : ℕ → ℕ) {C : List ℕ} {l : ℕ} → l ∈ C → f l ∈ map f C
+pub map_in : (f : ℕ → ℕ) {l : ℕ} {C : List ℕ} → l ∈ C → f l ∈ map f C
 map_in f (Memᴰ.head e) = Memᴰ.head (ap f e)
 map_in f (Memᴰ.tail m) = Memᴰ.tail (map_in f m)
 

@@ -1,4 +1,6 @@
 // The types that the paper's definitions and the code share. What each case means, and which answer is right, stands in specs/.
+#![tactic(auto)]
+
 ghost use Rattle.std.specs.Prelude.{◌≡◌};
 ghost use Rattle.paper.specs.Answers.{number_of, verdict_numbers};
 

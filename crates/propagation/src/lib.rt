@@ -1,4 +1,6 @@
 // Propagation over the live clauses from the values that the table holds: sweeps until one clashes or sets nothing.
+#![tactic(auto)]
+
 ghost use Rattle.propagation.specs.Propagated.{Propagable, Propagated};
 
 use sweep::Propagation;

@@ -1,5 +1,7 @@
 // The proof under reading: its bytes with a place in them. The reader is thin: it is taken apart, and the cursor of `field` reads.
 // `expect` has plain parameters, so whoever calls it sees no reader.
+#![tactic(auto)]
+
 ghost use Rattle.std.specs.Prelude.{◌≡◌, get_or};
 ghost use Rattle.paper.specs.declared.Reason.{Reason};
 ghost use Rattle.paper.specs.Files.{field};

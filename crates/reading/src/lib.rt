@@ -1,4 +1,6 @@
 // A formula is HEAD, then m CLAUSE fields, and nothing more. Each clause is entered into the clause table under its number.
+#![tactic(auto)]
+
 ghost use Rattle.std.specs.Prelude.{◌≡◌, ◌≤◌, ◌<◌, length};
 ghost use Rattle.table.specs.Table.{Zero};
 ghost use Rattle.reading.specs.Reading.{HeadSaid, ClauseSaid, ClausesSaid, FormulaSaid};

@@ -1,5 +1,7 @@
 // What is read and refused of one step of a proof: its fields (reason 8), the ranges of its witness (reason 9) and the clause
 // numbers that it names (reason 11); and the clause table cleared of those numbers.
+#![tactic(auto)]
+
 ghost use Rattle.std.specs.Prelude.{◌≡◌, ◌+◌, ◌%◌, ◌≤◌, length};
 ghost use Rattle.paper.specs.declared.Reason.TheVariants.{ProofCode, NumberNotLive};
 ghost use Rattle.paper.specs.Files.{File, payload, codes, mappings};

@@ -1,5 +1,7 @@
 // One sweep of a propagation over the live clauses, by rising number. A clause with one literal unset and all others false has that
 // literal set; "A sweep stops at the first clause whose literals are all false."
+#![tactic(auto)]
+
 ghost use Rattle.std.specs.Prelude.{◌≡◌, ◌≢◌, true, false, ◌<◌, ◌≤◌, length};
 ghost use Rattle.sweep.specs.Swept.{Literals, all_false, Sweepable, Swept};
 

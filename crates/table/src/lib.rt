@@ -1,5 +1,7 @@
 // Two bytes for each variable 0 to 4,095, in 8,192 bytes that the caller lends. The first byte is the variable's value
 // (0 unset, 1 true, 2 false), plus 4 if the witness maps it, plus 8 times the high part of its image's code; the second is the low part.
+#![tactic(auto)]
+
 ghost use Rattle.std.specs.Prelude.{◌≡◌, suc, ◌/◌, ◌%◌, ◌<◌, ◌≤◌, eqb, length};
 ghost use Rattle.paper.specs.Atoms.{complement};
 ghost use Rattle.table.specs.Table.{value_at, mapped_at, image_at, image_of, set_value, set_image, clear_image, clear_values};

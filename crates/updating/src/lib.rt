@@ -1,5 +1,7 @@
 // "The state of a propagation (number of literals set, sweeps made, clash or none) is a small record that each sweep updates": the
 // record is lent to the sweep. `sweep_once` has it by value, so whoever calls that lends nothing.
+#![tactic(auto)]
+
 ghost use Rattle.sweep.specs.Swept.{Sweepable, Swept};
 
 use sweep::Propagation;
