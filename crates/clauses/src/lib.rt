@@ -12,7 +12,7 @@ ghost use Rattle.clauses.specs.Check.{variables, Fitting, place_said, unmarked, 
 use paper::Extent;
 
 // The first place that fails a test, as an offset in the file.
-#[derive(Drop)]
+#[derive(Clone, Copy)]
 pub enum First {
     At(usize),
     Nowhere,
@@ -99,7 +99,7 @@ fn variable_twice(file: &[u8], e: Extent, t: &mut [u8]) -> First
 }
 
 // What is wrong with a clause, and the offset of the code concerned.
-#[derive(Drop)]
+#[derive(Clone, Copy)]
 pub enum ClauseCheck {
     Fine,
     // A code outside 2 to 2 vars + 1.

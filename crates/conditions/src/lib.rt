@@ -73,7 +73,7 @@ fn is_next(numbers: &[u8], at: usize, n: usize) -> bool
 }
 
 // The lowest number of a clause that does not pass, if there is one.
-#[derive(Drop)]
+#[derive(Clone, Copy)]
 pub enum Failing {
     Nothing,
     At(usize),

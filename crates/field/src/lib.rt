@@ -23,13 +23,13 @@ pub fn pair_at(s: &[u8], at: usize) -> usize
     wide(s[at]) * 256 + wide(s[at + 1])
 }
 
-#[derive(Drop)]
+#[derive(Clone, Copy)]
 pub struct Cursor {
     pub at: usize,
 }
 
 // What reading at a cursor finds.
-#[derive(Drop)]
+#[derive(Clone, Copy)]
 pub enum FieldRead {
     // A whole field, and the cursor past it.
     Whole {
@@ -76,7 +76,7 @@ impl Cursor {
 }
 
 // The lengths that a field may have: 4 (HEAD), an even one (codes, numbers), a multiple of 4 (WITNESS).
-#[derive(Drop)]
+#[derive(Clone, Copy)]
 pub enum Length {
     Four,
     Even,
@@ -94,7 +94,7 @@ pub fn allowed(l: Length, n: usize) -> bool
 }
 
 // The field that must stand at a place, if it does, and the cursor past it.
-#[derive(Drop)]
+#[derive(Clone, Copy)]
 pub enum Expected {
     Found { extent: Extent, next: Cursor },
     Wrong,

@@ -14,7 +14,7 @@ use paper::{Extent, Fields, Reason};
 use steps::{Checked, FieldsRead};
 
 // What the conditions say of a step that was read.
-#[derive(Drop)]
+#[derive(Clone, Copy)]
 pub enum Judgement {
     Passed,
     Stopped { reason: Reason, place: usize },
@@ -211,7 +211,7 @@ fn judge_fields<'a>(
 }
 
 // A step that is taken leaves the next number and the cursor past it.
-#[derive(Drop)]
+#[derive(Clone, Copy)]
 pub enum StepAnswer {
     Taken { next: usize, later: Cursor },
     Stopped { reason: Reason, place: usize },

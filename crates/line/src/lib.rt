@@ -80,7 +80,7 @@ fn put_word(out: &mut [u8; 80], v: Verdict) -> usize
 }
 
 // A line: its bytes stand at the start, and zeros behind them.
-#[derive(Drop)]
+#[derive(Clone, Copy)]
 pub struct Line {
     pub bytes: [u8; 80],
     pub size: usize,

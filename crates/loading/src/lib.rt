@@ -22,7 +22,7 @@ pub fn assume_clause(clause: &[u8], t: &mut [u8])
 }
 
 // Whether a clause passes by the images of its literals alone, or is open.
-#[derive(Drop)]
+#[derive(Clone, Copy)]
 pub enum Assumed {
     Passes,
     Open,

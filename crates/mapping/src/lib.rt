@@ -9,7 +9,7 @@ ghost use Rattle.paper.specs.Refusals.{no_two};
 ghost use Rattle.mapping.specs.Mapping.{variables, Fitting, Bare, unloaded, said_by, table_after};
 
 // Whether each variable is mapped once; or the offset of the first pair whose variable is mapped already.
-#[derive(Drop)]
+#[derive(Clone, Copy)]
 pub enum Loaded {
     Once,
     Twice(usize),

@@ -5,14 +5,14 @@ ghost use Rattle.std.specs.Prelude.{◌≡◌};
 ghost use Rattle.paper.specs.Answers.{number_of, verdict_numbers};
 
 // Where the payload of a field starts, and how long it is.
-#[derive(Drop)]
+#[derive(Clone, Copy)]
 pub struct Extent {
     pub start: usize,
     pub size: usize,
 }
 
 // The fields of a step, and the place past them. A field that the step's tag does not ask for is empty.
-#[derive(Drop)]
+#[derive(Clone, Copy)]
 pub struct Fields {
     pub clause: Extent,
     pub witness: Extent,
@@ -20,7 +20,7 @@ pub struct Fields {
     pub next: usize,
 }
 
-#[derive(Drop)]
+#[derive(Clone, Copy)]
 pub enum Reason {
     WorkShort,
     FileLong,
@@ -39,14 +39,14 @@ pub enum Reason {
     NotPassing,
 }
 
-#[derive(Drop)]
+#[derive(Clone, Copy)]
 pub struct Refusal {
     pub reason: Reason,
     pub step: usize,
     pub place: usize,
 }
 
-#[derive(Drop)]
+#[derive(Clone, Copy)]
 pub enum Verdict {
     Refuted(usize),
     Held(usize),
@@ -54,7 +54,7 @@ pub enum Verdict {
 }
 
 // The verdict (0 refuted, 1 held, 2 refused), reason (0 unless refused), step, place (0 unless refused).
-#[derive(Drop)]
+#[derive(Clone, Copy)]
 pub struct Numbers {
     pub verdict: u8,
     pub reason: u8,

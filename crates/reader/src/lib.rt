@@ -9,7 +9,7 @@ ghost use Rattle.field.specs.Field.{field_at, allowed_by, expected_of};
 
 use field::{Cursor, Expected, FieldRead, Length};
 
-#[derive(Drop)]
+#[derive(Clone, Copy)]
 pub struct ProofReader<'a> {
     pub bytes: &'a [u8],
     pub place: Cursor,

@@ -10,7 +10,7 @@ use field::{Cursor, Expected, Length};
 use paper::Reason;
 
 // V, m and the cursor past HEAD; or what is wrong with HEAD.
-#[derive(Drop)]
+#[derive(Clone, Copy)]
 pub enum HeadRead {
     Limits {
         vars: usize,
@@ -57,7 +57,7 @@ fn read_head(formula: &[u8]) -> HeadRead
 }
 
 // The cursor past what was read; or what is wrong with it.
-#[derive(Drop)]
+#[derive(Clone, Copy)]
 pub enum ClauseRead {
     Next(Cursor),
     Bad { reason: Reason, place: usize },
@@ -126,7 +126,7 @@ fn enter_clauses(
 }
 
 // The number of variables, and the number that the next clause would get; or what is wrong with the formula.
-#[derive(Drop)]
+#[derive(Clone, Copy)]
 pub enum FormulaRead {
     Whole { vars: usize, next: usize },
     Bad { reason: Reason, place: usize },

@@ -14,7 +14,7 @@ use field::{Cursor, Expected, Length};
 use paper::{Extent, Fields};
 
 // The fields of a step and the cursor past them; or the place of the first that is missing or not as it must be.
-#[derive(Drop)]
+#[derive(Clone, Copy)]
 pub enum FieldsRead {
     Whole { fields: Fields, next: Cursor },
     Bad(usize),
@@ -87,7 +87,7 @@ pub fn read_fields(proof: &[u8], first: Cursor) -> FieldsRead
 }
 
 // Whether all of a field is in order; or the place of the first two bytes that are not.
-#[derive(Drop)]
+#[derive(Clone, Copy)]
 pub enum Checked {
     Fine,
     At(usize),

@@ -40,7 +40,7 @@ fn all_false(clause: &[u8], from: usize, t: &[u8]) -> bool
 }
 
 // The state of a propagation: number of literals set, sweeps made, clash or none.
-#[derive(Drop)]
+#[derive(Clone, Copy)]
 pub struct Propagation {
     pub literals: usize,
     pub sweeps: usize,
