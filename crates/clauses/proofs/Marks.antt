@@ -30,12 +30,12 @@ use Rattle.clauses.proofs.Parts.{part, part_payload, Walk, walk_start, walk_turn
 kept_marked : {t u : List ℕ} (vs : List ℕ) → Kept t u → Kept t (marked u vs)
 unfolding marked
 kept_marked [] k = k
-kept_marked (v ∷ vs) k = kept_marked vs (kept_set_value v 1 (omega arith) k)
+kept_marked {u = u} (v ∷ vs) k = kept_marked {u = set_value u v 1} vs (kept_set_value v 1 (omega arith) k)
 
 kept_unmarked : {t u : List ℕ} (vs : List ℕ) → Kept t u → Kept t (unmarked u vs)
 unfolding unmarked
 kept_unmarked [] k = k
-kept_unmarked (v ∷ vs) k = kept_unmarked vs (kept_set_value v 0 (omega arith) k)
+kept_unmarked {u = u} (v ∷ vs) k = kept_unmarked {u = set_value u v 0} vs (kept_set_value v 0 (omega arith) k)
 
 marked_other : (t vs : List ℕ) (v : ℕ) → ¬ (v ∈ vs) → value_at (marked t vs) v ≡ value_at t v
 unfolding marked

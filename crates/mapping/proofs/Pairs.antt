@@ -35,7 +35,7 @@ unfolding codes mappings
 none w i h = rw (drop_of_length-le w h)
 
 -- a variable is listed where a mapping of it is
-pub listed : (s : Witness) {v a : ℕ} → ◌∈◌ {A = ℕ × ℕ} (v, a) s → v ∈ variables s
+pub listed : {v a : ℕ} (s : Witness) → ◌∈◌ {A = ℕ × ℕ} (v, a) s → v ∈ variables s
 listed s (Memᴰ.head e) = Memᴰ.head (ap (λ (m : ℕ × ℕ). m.0) e)
 listed s (Memᴰ.tail m) = Memᴰ.tail (listed _ m)
 

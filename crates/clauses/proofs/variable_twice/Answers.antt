@@ -20,10 +20,10 @@ pub returns-in-At : goal.returns-in-At
 unfolding up_to
 returns-in-At c =
     let k = looked_as c.first_twice-found.ensures c.in-At.is in
-    (k.said, c.clear_marks.ensures ∙ looked_cleared c.requires.1.1 k)
+    record { said = k.said; table = c.clear_marks.ensures ∙ looked_cleared c.requires.1.1 k }
 
 pub returns-in-Nowhere : goal.returns-in-Nowhere
 unfolding up_to
 returns-in-Nowhere c =
     let k = looked_as c.first_twice-found.ensures c.in-Nowhere.is in
-    (k.said, c.clear_marks-in-Nowhere.ensures ∙ looked_cleared c.requires.1.1 k)
+    record { said = k.said; table = c.clear_marks-in-Nowhere.ensures ∙ looked_cleared c.requires.1.1 k }

@@ -5,11 +5,11 @@ use Rattle.line.proofs.line_of.Goals as goal
 
 pub returns : goal.returns
 returns c =
-    line_stands c.put_word-at.new.0 c.put_field-reason.new.0 c.put_field-step.new.0 c.put_field-place.new.0
+    line_stands c.put_word-at.new.out c.put_field-reason.new.out c.put_field-step.new.out c.put_field-place.new.out
     c.put_word-at.result c.put_field-reason.result c.put_field-step.result c.put_field-place.result
     c.args.v c.as_numbers-n.result (omega arith)
     c.as_numbers-n.ensures
-    c.put_word-at.ensures.0
-    c.put_field-reason.ensures.0
-    c.put_field-step.ensures.0
-    c.put_field-place.ensures.0
+    c.put_word-at.ensures.put
+    c.put_field-reason.ensures.put
+    c.put_field-step.ensures.put
+    c.put_field-place.ensures.put

@@ -41,10 +41,7 @@ returns-then-is_mapped c =
     let q = c.requires.1.0 in
     let h : c.loop-i.i + 3 < length c.args.w.now = omega (arith, c.loop-i.invariant.1) in
     let n = c.loop-i.invariant.2 in
-    let m : mapped_at c.loop-i.t (two c.args.w.now c.loop-i.i) ≡ true = ap (mapped_at c.loop-i.t) (sym c.pair_at-v.ensures.0) ∙ sym c.is_mapped.ensures ∙ c.if-is_mapped.true in (
-      loading_twice c.args.w.now c.args.t.now c.loop-i.t c.loop-i.i n c.requires.0 c.requires.1.1.0 h m,
-      ((λ i e. inside c.loop-i.i i (length c.args.w.now) e (omega arith)), c.unload_witness.ensures ∙ loading_back c.args.w.now c.args.t.now c.loop-i.t c.loop-i.i n c.requires.0 c.requires.1.1.0 c.requires.1.1.1),
-    )
+    let m : mapped_at c.loop-i.t (two c.args.w.now c.loop-i.i) ≡ true = ap (mapped_at c.loop-i.t) (sym c.pair_at-v.ensures.0) ∙ sym c.is_mapped.ensures ∙ c.if-is_mapped.true in record { said = loading_twice c.args.w.now c.args.t.now c.loop-i.t c.loop-i.i n c.requires.0 c.requires.1.1.0 h m; place = (λ i e. inside c.loop-i.i i (length c.args.w.now) e (omega arith)); table = c.unload_witness.ensures ∙ loading_back c.args.w.now c.args.t.now c.loop-i.t c.loop-i.i n c.requires.0 c.requires.1.1.0 c.requires.1.1.1 }
 
 pub pair_at-requires : goal.pair_at-requires
 pair_at-requires c =
@@ -76,7 +73,4 @@ loop-i-preserved c =
 pub returns : goal.returns
 unfolding said_by table_after
 returns c =
-    let n = c.loop-i.invariant.2 in (
-      loading_once c.args.w.now c.args.t.now c.loop-i.t c.loop-i.i n c.loop-i-test.false,
-      ((λ i e. not_twice i _ e), loading_end c.args.w.now c.args.t.now c.loop-i.t c.loop-i.i n c.loop-i-test.false),
-    )
+    let n = c.loop-i.invariant.2 in record { said = loading_once c.args.w.now c.args.t.now c.loop-i.t c.loop-i.i n c.loop-i-test.false; place = (λ i e. not_twice i _ e); table = loading_end c.args.w.now c.args.t.now c.loop-i.t c.loop-i.i n c.loop-i-test.false }
