@@ -145,6 +145,7 @@ listed_below p x g b i n from even_place h q =
 
 -- the numbers of live clauses are in use
 listed_live : (F : Formula) (last : ℕ) (ns : List ℕ) → Listed F last ns → (n : ℕ) → n ∈ ns → is_live n F ≡ true
+listed_live F last [] l n q = elim q [ ]
 listed_live F last (m ∷ ns) l n (Memᴰ.head e) = rw e l.0
 listed_live F last (m ∷ ns) l n (Memᴰ.tail q) = listed_live F m ns l.2 n q
 

@@ -1,5 +1,4 @@
 -- `read_fields` finds the fields that the paper's reading finds.
-use borrow.Author.Rules.{rules}
 use Prim.Native.Nat.{ℕ}
 use mathlib.Core.Path.{◌≡◌, refl, sym, ap, subst, ◌∙◌}
 use mathlib.Core.Bool.{true}
@@ -16,10 +15,9 @@ use Rattle.reader.proofs.tag_at.Reads as tag-at-reads
 use Rattle.steps.proofs.Fields.{same_test, found_if, wrong_if, tag_refused, clause_refused, witness_refused, modulo_refused, delete_read, clause_read, as_whole, as_bad}
 use Rattle.steps.proofs.expect_if.Reads as expect-if-reads
 use Rattle.steps.proofs.within.Reads as within-reads
-use Rattle.steps.proofs.read_fields.Statement.{statement}
-use Rattle.steps.proofs.read_fields.Tie as tie
 use Rattle.steps.proofs.read_fields.Reads as reads
 use Rattle.steps.proofs.read_fields.Lts as lts
+use Rattle.steps.proofs.read_fields.Goals as goal
 
 -- The places of the code: the tag is seen, a field is found, and the next is asked for.
 abbrev Tagged : Type 0
@@ -100,99 +98,38 @@ modulo d = found_if _ _ even _ _ _ _ (sym d.modulo.given.1 ∙ modulo-asked d.be
 past-modulo : (d : Modulo-found) → d.modulo.given.0.1.0.at ≡ past d.modulo.given.0.0
 past-modulo d = found_next _ _ _ (sym d.modulo.given.1 ∙ modulo-asked d.before.before)
 
-tag-at-requires : tie.Need-tag-at-requires
-tag-at-requires c κs = search rules
+pub returns-then-not-within : goal.returns-then-not-within
+returns-then-not-within c =
+    as_bad _ _ _ _ refl (tag_refused _ _ (ap (between 0x11 0x14) (sym c.tag_at-tag.ensures) ∙ sym c.within.ensures ∙ not_true _ c.if-not-within.true))
 
-within-requires : tie.Need-within-requires
-within-requires c κs = search rules
+pub returns-in_default : goal.returns-in_default
+returns-in_default c =
+    let t = step-tag c in
+    as_bad _ _ _ _ refl (clause_refused _ _ t (subst (λ (x : ℕ). field ProofField x even (proof c) (at c) ≡ bad ProofField (at c)) (seen c) (wrong ProofField _ even _ _ (sym c.in_default.is ∙ c.expect.ensures ProofField))))
 
-returns : tie.Need-returns
-returns c =
-    let d = c.before in
-    as_bad _ _ _ _ refl (tag_refused _ _ (ap (between 0x11 0x14) (sym d.before.tag_at.ensures) ∙ sym d.within.ensures ∙ not_true _ c.if1.true))
-
-expect-requires : tie.Need-expect-requires
-expect-requires c κs = search rules
-
-enum-known-c : tie.Need-enum-known-c
-enum-known-c c = search rules
-
-enum_told : tie.Need-enum-told
-enum_told c = search rules
-
-returns-2 : tie.Need-returns-2
-returns-2 c =
-    let d = c.before.before in
-    let t = step-tag d.before in
-    as_bad _ _ _ _ refl (clause_refused _ _ t (subst (λ (x : ℕ). field ProofField x even (proof d.before) (at d.before) ≡ bad ProofField (at d.before)) (seen d.before) (wrong ProofField _ even _ _ (sym c.enum_told.given.1 ∙ d.expect.ensures ProofField))))
-
-within-requires-2 : tie.Need-within-requires-2
-within-requires-2 c κs = search rules
-
-expect-if-requires : tie.Need-expect-if-requires
-expect-if-requires c κs = search rules
-
-enum-known-witness : tie.Need-enum-known-witness
-enum-known-witness c = search rules
-
-enum-told-2 : tie.Need-enum-told-2
-enum-told-2 c = search rules
-
-returns-3 : tie.Need-returns-3
-returns-3 c =
-    let d : Witness-asked = c.before.before in
+pub returns-in_default-witness : goal.returns-in_default-witness
+returns-in_default-witness c =
+    let d : Witness-asked = c in
     let e : Clause-found = clause_of d in
-    as_bad _ _ _ _ (past-clause e) (witness_refused _ _ (step-tag (tagged e)) _ (clause e) (wrong_if _ _ fours _ _ (sym c.enum-told2.given.1 ∙ witness-asked d)))
+    as_bad _ _ _ _ (past-clause e) (witness_refused _ _ (step-tag (tagged e)) _ (clause e) (wrong_if _ _ fours _ _ (sym c.in_default-witness.is ∙ witness-asked d)))
 
-expect-if-requires-2 : tie.Need-expect-if-requires-2
-expect-if-requires-2 c κs = search rules
-
-enum-known-modulo : tie.Need-enum-known-modulo
-enum-known-modulo c = search rules
-
-enum-told-3 : tie.Need-enum-told-3
-enum-told-3 c = search rules
-
-returns-4 : tie.Need-returns-4
-returns-4 c =
-    let d : Modulo-asked = c.before.before in
+pub returns-in_default-modulo : goal.returns-in_default-modulo
+returns-in_default-modulo c =
+    let d : Modulo-asked = c in
     let w : Witness-found = witness_of d in
     let e : Clause-found = clause_of w.before.before in
-    as_bad _ _ _ _ (past-witness w) (modulo_refused _ _ (step-tag (tagged e)) _ (clause e) _ (witness w) (wrong_if _ _ even _ _ (sym c.enum-told3.given.1 ∙ modulo-asked d)))
+    as_bad _ _ _ _ (past-witness w) (modulo_refused _ _ (step-tag (tagged e)) _ (clause e) _ (witness w) (wrong_if _ _ even _ _ (sym c.in_default-modulo.is ∙ modulo-asked d)))
 
-returns-5 : tie.Need-returns-5
-returns-5 c =
-    let d : Modulo-found = c.before.before in
+pub returns-then-tag-eq20 : goal.returns-then-tag-eq20
+returns-then-tag-eq20 c =
+    let d : Modulo-found = c in
     let w : Witness-found = witness_of d.before.before in
     let e : Clause-found = clause_of w.before.before in
-    as_whole _ _ _ _ _ _ _ (past-clause e) (delete_read _ _ (step-tag (tagged e)) _ (clause e) _ (witness w) _ (modulo d) (sym (seen (tagged e)) ∙ c.if2.true))
+    as_whole _ _ _ _ _ _ _ (past-clause e) (delete_read _ _ (step-tag (tagged e)) _ (clause e) _ (witness w) _ (modulo d) (sym (seen (tagged e)) ∙ c.if-tag-eq20.true))
 
-returns-6 : tie.Need-returns-6
-returns-6 c =
-    let d : Modulo-found = c.before.before in
+pub returns : goal.returns
+returns c =
+    let d : Modulo-found = c in
     let w : Witness-found = witness_of d.before.before in
     let e : Clause-found = clause_of w.before.before in
-    as_whole _ _ _ _ _ _ _ (past-modulo d) (clause_read _ _ (step-tag (tagged e)) _ (clause e) _ (witness w) _ (modulo d) (λ z. c.if2.false (seen (tagged e) ∙ z)))
-
-pub read-fields-spec : {M : Type 1} → statement M
-read-fields-spec =
-    tie.close
-    (tie.spec
-    tag-at-requires
-    within-requires
-    returns
-    expect-requires
-    enum-known-c
-    enum_told
-    returns-2
-    within-requires-2
-    expect-if-requires
-    enum-known-witness
-    enum-told-2
-    returns-3
-    expect-if-requires-2
-    enum-known-modulo
-    enum-told-3
-    returns-4
-    returns-5
-    returns-6)
+    as_whole _ _ _ _ _ _ _ (past-modulo d) (clause_read _ _ (step-tag (tagged e)) _ (clause e) _ (witness w) _ (modulo d) (λ z. c.if-tag-eq20.false (seen (tagged e) ∙ z)))
