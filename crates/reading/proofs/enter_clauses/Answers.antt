@@ -26,7 +26,7 @@ formula_word-requires c =
 pub returns-in-Bad : goal.returns-in-Bad
 returns-in-Bad c =
     let k = clause_said_as _ _ _ _ _ c.read_clause.ensures.said c.in-Bad.is in
-    (entering_bad c.loop-k.invariant c.loop-k-test.true _ _ k, c.read_clause.ensures.table ∙ c.loop-k.invariant.table)
+    record { said = entering_bad c.loop-k.invariant c.loop-k-test.true _ _ k; table = c.read_clause.ensures.table ∙ c.loop-k.invariant.table }
 
 pub loop-k-preserved : goal.loop-k-preserved
 loop-k-preserved c =
@@ -43,4 +43,4 @@ loop-k-preserved c =
     c.read_clause.ensures.table
 
 pub returns : goal.returns
-returns c = (entering_end c.loop-k.invariant c.loop-k-test.false, c.loop-k.invariant.table)
+returns c = record { said = entering_end c.loop-k.invariant c.loop-k-test.false; table = c.loop-k.invariant.table }

@@ -11,24 +11,6 @@ use Rattle.clauses.specs.Check.{clause_said}
 use Rattle.reading.proofs.Clause.{clause_ends, clause_wrong, clause_checkable, clause_bad, clause_taken}
 use Rattle.reading.proofs.read_clause.Goals as goal
 
--- the clause is refused where the check's answer says so
-refused : (k : tie.After-check-clause) (s : ClauseCheck) (reason : Reason) (p : ℕ) → k.check_clause.result ≡ s →
-    let a = k.before.before.before.before.before.before.before.before.before.args in
-    clause_said FormulaCode FormulaTwice s ≡ bad reason p → (m n : ℕ) → read_clauses a.formula.now a.vars (suc m) n a.c.at ≡ bad reason p
-refused k s reason p same q =
-    let e = k.before.before.before in
-    let x = e.before.before in
-    clause_bad
-    _ _ _
-    x.before.if1.false
-    _
-    (found FormulaField 2 even _ _ _ _ (sym e.e.given.1 ∙ x.expect.ensures FormulaField))
-    _ s
-    k.check_clause.ensures.0
-    same
-    reason p
-    q
-
 pub returns-then-formula-at : goal.returns-then-formula-at
 returns-then-formula-at c = (clause_ends _ _ _ c.if-formula-at.true, refl)
 
@@ -64,9 +46,17 @@ returns-in-Fine c =
 pub returns-in-Range : goal.returns-in-Range
 unfolding clause_said
 returns-in-Range c =
-    (refused k _ _ _ c.in-Range.is refl, c.check_clause.ensures.table)
+    let found_clause = found FormulaField 2 even _ _ _ _ (sym c.in-Found.is ∙ c.expect.ensures FormulaField) in
+    record {
+      said = clause_bad _ _ _ c.if-formula-at.false _ found_clause _ _ c.check_clause.ensures.said c.in-Range.is _ _ refl;
+      table = c.check_clause.ensures.table;
+    }
 
 pub returns-in-Twice : goal.returns-in-Twice
 unfolding clause_said
 returns-in-Twice c =
-    (refused k _ _ _ c.in-Twice.is refl, c.check_clause.ensures.table)
+    let found_clause = found FormulaField 2 even _ _ _ _ (sym c.in-Found.is ∙ c.expect.ensures FormulaField) in
+    record {
+      said = clause_bad _ _ _ c.if-formula-at.false _ found_clause _ _ c.check_clause.ensures.said c.in-Twice.is _ _ refl;
+      table = c.check_clause.ensures.table;
+    }

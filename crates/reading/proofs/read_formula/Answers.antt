@@ -14,13 +14,10 @@ enter_clauses-requires c =
 pub returns-then-at-formula : goal.returns-then-at-formula
 returns-then-at-formula c =
     let h = head_said_as _ _ _ c.read_head.ensures c.in-Limits.is in
-    let q = clauses_said_as _ _ _ _ _ _ _ _ c.enter_clauses.ensures.said c.in-Next.is in (
-      record {
+    let q = clauses_said_as _ _ _ _ _ _ _ _ c.enter_clauses.ensures.said c.in-Next.is in record { said = record {
         read = bytes_follow _ _ _ _ h _ _ _ q c.if-at-formula.true;
-        words = zeroed _ _ _ c.requires.1.1.0 c.enter_clauses.auto.1.1.1.1.0 c.zero_words-then-at-formula.ensures;
-      },
-      c.enter_clauses.ensures.table,
-    )
+        words = zeroed _ _ _ c.requires.1.1.0 c.enter_clauses.auto.words c.zero_words-then-at-formula.ensures;
+      }; table = c.enter_clauses.ensures.table }
 
 pub overflow_add-result : goal.overflow_add-result
 overflow_add-result c =
@@ -30,21 +27,18 @@ overflow_add-result c =
 
 pub returns-in-Bad : goal.returns-in-Bad
 returns-in-Bad c =
-    (record { read = head_said_as _ _ _ c.read_head.ensures c.in-Bad.is; words = refl }, refl)
+    record { said = record { read = head_said_as _ _ _ c.read_head.ensures c.in-Bad.is; words = refl }; table = refl }
 
 pub returns-in-Bad-enter_clauses : goal.returns-in-Bad-enter_clauses
 returns-in-Bad-enter_clauses c =
     let h = head_said_as _ _ _ c.read_head.ensures c.in-Limits.is in
-    let q = clauses_said_as _ _ _ _ _ _ _ _ c.enter_clauses.ensures.said c.in-Bad-enter_clauses.is in (
-      record {
+    let q = clauses_said_as _ _ _ _ _ _ _ _ c.enter_clauses.ensures.said c.in-Bad-enter_clauses.is in record { said = record {
         read = clauses_refused _ _ _ _ h _ _ q;
-        words = zeroed _ _ _ c.requires.1.1.0 c.enter_clauses.auto.1.1.1.1.0 c.zero_words.ensures;
-      },
-      c.enter_clauses.ensures.table,
-    )
+        words = zeroed _ _ _ c.requires.1.1.0 c.enter_clauses.auto.words c.zero_words.ensures;
+      }; table = c.enter_clauses.ensures.table }
 
 pub returns-else-at-formula : goal.returns-else-at-formula
 returns-else-at-formula c =
     let h = head_said_as _ _ _ c.read_head.ensures c.in-Limits.is in
     let q = clauses_said_as _ _ _ _ _ _ _ _ c.enter_clauses.ensures.said c.in-Next.is in
-    (formula_taken _ _ _ _ h _ _ _ q c.if-at-formula.false c.enter_clauses.auto.1.1.1.1.0, c.enter_clauses.ensures.table)
+    record { said = formula_taken _ _ _ _ h _ _ _ q c.if-at-formula.false c.enter_clauses.auto.words; table = c.enter_clauses.ensures.table }
