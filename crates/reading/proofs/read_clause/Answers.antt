@@ -12,11 +12,11 @@ use Rattle.reading.proofs.Clause.{clause_ends, clause_wrong, clause_checkable, c
 use Rattle.reading.proofs.read_clause.Goals as goal
 
 pub returns-then-formula-at : goal.returns-then-formula-at
-returns-then-formula-at c = (clause_ends _ _ _ c.if-formula-at.true, refl)
+returns-then-formula-at c = record { said = clause_ends _ _ _ c.if-formula-at.true; table = refl }
 
 pub returns-in_default : goal.returns-in_default
 returns-in_default c =
-    (clause_wrong _ _ _ c.if-formula-at.false (wrong FormulaField 2 even _ _ (sym c.in_default.is ∙ c.expect.ensures FormulaField)), refl)
+    record { said = clause_wrong _ _ _ c.if-formula-at.false (wrong FormulaField 2 even _ _ (sym c.in_default.is ∙ c.expect.ensures FormulaField)); table = refl }
 
 pub check_clause-requires : goal.check_clause-requires
 check_clause-requires c =
@@ -28,8 +28,7 @@ check_clause-requires c =
 pub returns-in-Fine : goal.returns-in-Fine
 unfolding clause_said
 returns-in-Fine c =
-    (
-      clause_taken
+    record { said = clause_taken
           _ _ _
           c.if-formula-at.false
           _
@@ -39,9 +38,7 @@ returns-in-Fine c =
           c.in-Fine.is
           refl
           _
-          (found_next _ _ _ (sym c.in-Found.is ∙ c.expect.ensures FormulaField)),
-      c.check_clause.ensures.table,
-    )
+          (found_next _ _ _ (sym c.in-Found.is ∙ c.expect.ensures FormulaField)); table = c.check_clause.ensures.table }
 
 pub returns-in-Range : goal.returns-in-Range
 unfolding clause_said
