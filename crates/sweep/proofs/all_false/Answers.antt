@@ -5,13 +5,6 @@ use native.Mathlib.Omega.{arith}
 use Rattle.sweep.proofs.Laws.{passed_start, both_bytes, code_range, value_less, unset_left, true_left, passed_false, all_passed}
 use Rattle.sweep.proofs.all_false.Goals as goal
 
--- a literal read, and its variable's value
-abbrev Read : Type 0
-Read = tie.After-wide invariant-loop decreases-loop
-
-abbrev place : Read → tie.At-loop invariant-loop decreases-loop
-place d = d.before.before.before.before
-
 pub loop-i-init : goal.loop-i-init
 loop-i-init c = passed_start _ c.requires.0
 
@@ -28,17 +21,17 @@ is_unset-requires c = value_less _ _ _ (c.wide-value.ensures.0 ∙ c.value.ensur
 
 pub returns-then-is_unset : goal.returns-then-is_unset
 returns-then-is_unset c =
-    unset_left (place d).loop.invariant c.loop-i-test.true c.pair_at-code.ensures.0
+    unset_left c.loop-i.invariant c.loop-i-test.true c.pair_at-code.ensures.0
     (c.wide-value.ensures.0 ∙ c.value.ensures) (c.is_unset.ensures.0 c.if-is_unset.true)
 
 pub returns-then-value-code : goal.returns-then-value-code
 returns-then-value-code c =
-    true_left (place d).loop.invariant c.loop-i-test.true c.pair_at-code.ensures.0
+    true_left c.loop-i.invariant c.loop-i-test.true c.pair_at-code.ensures.0
     (c.wide-value.ensures.0 ∙ c.value.ensures) c.if-value-code.true
 
 pub loop-i-preserved : goal.loop-i-preserved
 loop-i-preserved c =
-    passed_false (place d).loop.invariant c.loop-i-test.true c.pair_at-code.ensures.0
+    passed_false c.loop-i.invariant c.loop-i-test.true c.pair_at-code.ensures.0
     (c.wide-value.ensures.0 ∙ c.value.ensures) (c.is_unset.ensures.1 c.if-is_unset.false) c.if-value-code.false
 
 pub returns : goal.returns
