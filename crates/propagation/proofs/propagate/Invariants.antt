@@ -1,0 +1,10 @@
+-- `propagate` is the paper's sweeps. The invariant: the sweeps that are left, from the state now, make the state that all of them make.
+-- Assumes nothing.
+use Rattle.propagation.proofs.Laws.{Running}
+use Rattle.propagation.proofs.propagate.Given as goal
+
+abbrev pub invariant-loop-left : goal.invariant-loop-left
+invariant-loop-left l = Running l.formula l.proof l.words l.initial.t l.t l.p l.left
+
+abbrev pub decreases-loop-left : goal.decreases-loop-left
+decreases-loop-left l = l.left
