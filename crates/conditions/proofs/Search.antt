@@ -107,14 +107,6 @@ module _ (modulo : List ℕ) (n at : ℕ) (place : Place modulo n at) where
           later k l (Memᴰ.head e) = absurd (omega (arith, x))
           later k l (Memᴰ.tail m) = m
 
-not_true : (b : Bool) → not b ≡ true → b ≡ false
-not_true true e = absurd (false≢true e)
-not_true false e = refl
-
-not_false : (b : Bool) → not b ≡ false → b ≡ true
-not_false true e = refl
-not_false false e = absurd (true≢false e)
-
 -- 2. The numbers passed.
 module _ (f p : File) (ws : List ℕ) (C : Clause) (modulo : List ℕ) (t : List ℕ) where
   abbrev F : Formula
@@ -220,16 +212,15 @@ module _ (f p : File) (ws : List ℕ) (C : Clause) (modulo : List ℕ) (t : List
           said b q s images =
               subst (λ (x : Bool). Decides x (Passes F C s (codes d))) q (answer s (subst (λ (x : List ℕ). Images x s) (sym k.same) images))
 
-          pub turn_passes : not r ≡ false → Searching u (n + 1) at
+          pub turn_passes : r ≡ true → Searching u (n + 1) at
           turn_passes q =
               record {
                 number = omega arith;
                 within = k.within;
                 place = out.1;
-                passed = passed_passes n h ne d e (said true (not_false r q)) k.passed;
+                passed = passed_passes n h ne d e (said true q) k.passed;
                 same = k.same;
               }
 
-          -- the code tests its negation
-          pub turn_fails : not r ≡ true → (s : Witness) → Images t s → Finds F C s (codes modulo) (At n)
-          turn_fails q = passed_lowest n h ne d e out.0 (said false (not_true r q)) k.passed
+          pub turn_fails : r ≡ false → (s : Witness) → Images t s → Finds F C s (codes modulo) (At n)
+          turn_fails q = passed_lowest n h ne d e out.0 (said false q) k.passed
