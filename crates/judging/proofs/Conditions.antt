@@ -21,14 +21,6 @@ use Rattle.judging.specs.declared.Judgement.{Judgement}
 use Rattle.judging.specs.declared.Judgement.TheVariants.{Passed, Stopped}
 use Rattle.judging.specs.Step.{outcome, New, NewJudged}
 
-was_false : (b : Bool) → not b ≡ true → b ≡ false
-was_false true e = sym e
-was_false false e = refl
-
-was_true : (b : Bool) → not b ≡ false → b ≡ true
-was_true true e = refl
-was_true false e = sym e
-
 module _ {f p : File} {ws : List ℕ} {clause numbers : List ℕ} {vars next : ℕ} {t : List ℕ} where
   -- RUP
   module _ (n : New f p ws 0x11 clause numbers vars next t) {b : Bool} (d : Decides b (RUP (live f p ws) (codes clause))) where
@@ -42,11 +34,11 @@ module _ {f p : File} {ws : List ℕ} {clause numbers : List ℕ} {vars next : �
 
   -- SR
   module _ (n : New f p ws 0x12 clause numbers vars next t) {b : Bool} (d : (s : Witness) → Images t s → Decides b (Trivialises s (codes clause))) where
-    pub sr_not_trivialised : not b ≡ true → NewJudged f p ws 0x12 clause numbers vars next t (Stopped NotTrivialised 0)
+    pub sr_not_trivialised : b ≡ false → NewJudged f p ws 0x12 clause numbers vars next t (Stopped NotTrivialised 0)
     unfolding outcome to_step
-    sr_not_trivialised e s i = not_trivialised ((d s i).no (was_false b e))
+    sr_not_trivialised e s i = not_trivialised ((d s i).no e)
 
-    module _ (e : not b ≡ false) (u : List ℕ) (same : u ≡ t) (r : Failing) (found : (s : Witness) → Images u s → Finds (live f p ws) (codes clause) s (codes numbers) r) where
+    module _ (e : b ≡ true) (u : List ℕ) (same : u ≡ t) (r : Failing) (found : (s : Witness) → Images u s → Finds (live f p ws) (codes clause) s (codes numbers) r) where
       images : (s : Witness) → Images t s → Images u s
       images s i = rw same i
 
@@ -54,12 +46,12 @@ module _ {f p : File} {ws : List ℕ} {clause numbers : List ℕ} {vars next : �
       unfolding outcome to_step
       sr_passed q s i =
           let all = subst (Finds (live f p ws) (codes clause) s []) q (rw (n.none_listed (omega arith)) at (found s (images s i))) in
-          rw (n.none_listed (omega arith)) (sr (record { new = (d s i).yes (was_true b e); old = λ k D l. all k D l (λ z. elim z [ ]) }))
+          rw (n.none_listed (omega arith)) (sr (record { new = (d s i).yes e; old = λ k D l. all k D l (λ z. elim z [ ]) }))
 
       pub sr_stopped : (k : ℕ) → r ≡ At k → NewJudged f p ws 0x12 clause numbers vars next t (Stopped NotPassing k)
       unfolding outcome to_step
       sr_stopped k q s i =
-          sr_lowest ((d s i).yes (was_true b e)) (subst (Finds (live f p ws) (codes clause) s []) q (rw (n.none_listed (omega arith)) at (found s (images s i))))
+          sr_lowest ((d s i).yes e) (subst (Finds (live f p ws) (codes clause) s []) q (rw (n.none_listed (omega arith)) at (found s (images s i))))
 
   -- WSR
   module _ (n : New f p ws 0x13 clause numbers vars next t) (r : Failing) (found : (s : Witness) → Images t s → Finds (live f p ws) (codes clause) s (codes numbers) r) where
