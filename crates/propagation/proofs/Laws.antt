@@ -19,7 +19,7 @@ use Rattle.paper.proofs.Values.{not_false_out}
 use Rattle.paper.proofs.Propagation.{sweeping, visit_none, visit_true, visit_set, visit_more, visits_end, visits_clashed, visits_next, sweep_visits, sweeps_none, sweeps_clash, sweeps_last, sweeps_next, Loaded, sweeps_iff}
 use Rattle.lookup.specs.Clause.{ClauseTable}
 use Rattle.lookup.specs.Live.{live}
-use Rattle.table.specs.Table.{values, value_at, Kept}
+use Rattle.table.specs.Table.{value_at, Kept}
 use Rattle.table.proofs.Values.{values_at}
 use Rattle.table.proofs.Kept.{kept_refl, kept_trans}
 use Rattle.sweep.specs.declared.Propagation.{Propagation}

@@ -1,6 +1,5 @@
 -- `answers::run_steps` meets its contract. The loop's invariant: the state is fit for a step, and what the rest answers the whole does.
 -- Assumes nothing.
-use Prim.Native.Nat.{◌-◌}
 use native.Mathlib.Omega.{arith}
 use Rattle.lookup.proofs.Table.{used_table}
 use Rattle.answers.proofs.Run.{at_start, ready, taken_further, going_on, stopped, end_refuted, end_held}

@@ -1,5 +1,4 @@
 -- `clauses::clear_marks` meets its contract. Assumes nothing.
-use Prim.Native.Nat.{◌-◌}
 use mathlib.Core.Path.{ap, ◌∙◌}
 use native.Mathlib.Omega.{arith}
 use Rattle.clauses.specs.Check.{variables, unmarked}

@@ -1,6 +1,4 @@
 -- `clauses::first_out_of_range` meets its contract. Assumes nothing.
-use Prim.Native.Nat.{◌-◌}
-use Rattle.paper.specs.Refusals.{between}
 use Rattle.clauses.proofs.Parts.{walk_start, walk_inside}
 use Rattle.clauses.proofs.Range.{between_below, between_above, between_within, ranged_start, ranged_turn, ranged_found, ranged_end}
 use Rattle.clauses.proofs.first_out_of_range.Goals as goal

@@ -1,5 +1,4 @@
 -- `clauses::first_twice` meets its contract. Assumes nothing.
-use Prim.Native.Nat.{◌-◌}
 use mathlib.Core.Path.{sym, ◌∙◌}
 use native.Mathlib.Omega.{arith}
 use Rattle.clauses.proofs.Parts.{walk_inside}

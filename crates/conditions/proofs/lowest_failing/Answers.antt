@@ -1,9 +1,7 @@
 -- `conditions::lowest_failing` meets its contract. Assumes nothing.
-use Prim.Native.Nat.{◌+◌, ◌-◌}
 use mathlib.Core.Path.{sym, ◌∙◌}
 use native.Mathlib.Omega.{arith}
-use Rattle.paper.specs.Files.{codes}
-use Rattle.conditions.proofs.Search.{Searching, searching_start, searching_same, searching_end, turn_named, turn_dead, turn_passes, turn_fails, number_asked}
+use Rattle.conditions.proofs.Search.{searching_start, searching_same, searching_end, turn_named, turn_dead, turn_passes, turn_fails, number_asked}
 use Rattle.conditions.proofs.lowest_failing.Goals as goal
 use Rattle.conditions.proofs.lowest_failing.Goals.{then-is_next, else-is_next+then-words-n-ge-LIVE+else-not-passes, else-is_next+else-words-n-ge-LIVE}
 
@@ -33,8 +31,11 @@ passes-requires c =
 
 pub returns-then-not-passes : goal.returns-then-not-passes
 returns-then-not-passes c =
-    record { answer = turn_fails _ _ _ _ _ _ _ _ _ c.loop-n.invariant c.loop-n-test.true (sym c.is_next.ensures ∙ c.if-is_next.false) c.if-words-n-ge-LIVE.true _
-          c.clause_at-d.ensures _ c.passes.ensures.answer c.if-not-passes.true; table = c.passes.ensures.table ∙ c.loop-n.invariant.same }
+    record {
+      answer = turn_fails _ _ _ _ _ _ _ _ _ c.loop-n.invariant c.loop-n-test.true (sym c.is_next.ensures ∙ c.if-is_next.false) c.if-words-n-ge-LIVE.true _
+          c.clause_at-d.ensures _ c.passes.ensures.answer c.if-not-passes.true;
+      table = c.passes.ensures.table ∙ c.loop-n.invariant.same;
+    }
 
 pub loop-n-preserved : goal.loop-n-preserved
 loop-n-preserved c =
@@ -45,11 +46,11 @@ loop-n-preserved c =
     elim c.if-is_next.branch [
       | then-is_next w ↦ searching_same _ _ _ _ _ _ _ _ _ (turn_named _ _ _ _ _ _ _ _ _ k h (f ∙ w.if-is_next.true)) _ _ w.t-is w.at-is
       | else-is_next+then-words-n-ge-LIVE+else-not-passes w ↦
-        searching_same _ _ _ _ _ _ _ _ _
-        (turn_passes _ _ _ _ _ _ _ _ _ k h (f ∙ w.if-is_next.false) w.if-words-n-ge-LIVE.true _ w.clause_at-d.ensures _ w.passes.ensures.answer w.if-not-passes.false) _ _
-        (w.t-is ∙ w.passes.ensures.table) w.at-is
+          searching_same _ _ _ _ _ _ _ _ _
+          (turn_passes _ _ _ _ _ _ _ _ _ k h (f ∙ w.if-is_next.false) w.if-words-n-ge-LIVE.true _ w.clause_at-d.ensures _ w.passes.ensures.answer w.if-not-passes.false) _ _
+          (w.t-is ∙ w.passes.ensures.table) w.at-is
       | else-is_next+else-words-n-ge-LIVE w ↦
-        searching_same _ _ _ _ _ _ _ _ _ (turn_dead _ _ _ _ _ _ _ _ _ k h (f ∙ w.if-is_next.false) w.if-words-n-ge-LIVE.false) _ _ w.t-is w.at-is
+          searching_same _ _ _ _ _ _ _ _ _ (turn_dead _ _ _ _ _ _ _ _ _ k h (f ∙ w.if-is_next.false) w.if-words-n-ge-LIVE.false) _ _ w.t-is w.at-is
     ]
 
 pub returns : goal.returns

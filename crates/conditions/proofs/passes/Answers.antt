@@ -41,13 +41,19 @@ clear_values-requires c =
 pub returns-in-Passes : goal.returns-in-Passes
 returns-in-Passes c =
     let pre = c.requires in
-    let o = clause_state _ _ _ _ _ _ pre.0 _ c.assume_clause.ensures in record { answer = λ s images. passes_by_images _ _ _ _ _ _ pre.0 pre.1.0 _ pre.1.1 _ o s images (sym c.in-Passes.is ∙ c.assume_images.ensures.answer); table = c.unset_images.ensures
-          ∙ both_undone _ pre.0.ready.unset _ _ _ c.assume_clause.ensures _ c.assume_images.ensures.table _ c.unset_clause.ensures }
+    let o = clause_state _ _ _ _ _ _ pre.0 _ c.assume_clause.ensures in record {
+      answer = λ s images. passes_by_images _ _ _ _ _ _ pre.0 pre.1.0 _ pre.1.1 _ o s images (sym c.in-Passes.is ∙ c.assume_images.ensures.answer);
+      table = c.unset_images.ensures
+          ∙ both_undone _ pre.0.ready.unset _ _ _ c.assume_clause.ensures _ c.assume_images.ensures.table _ c.unset_clause.ensures;
+    }
 
 pub returns-in-Open : goal.returns-in-Open
 returns-in-Open c =
     let pre = c.requires in
     let o = clause_state _ _ _ _ _ _ pre.0 _ c.assume_clause.ensures in
-    let w = images_leave _ _ _ _ _ _ pre.0 pre.1.0 _ pre.1.1 _ o _ c.assume_images.ensures.table in record { answer = λ s images.
+    let w = images_leave _ _ _ _ _ _ pre.0 pre.1.0 _ pre.1.1 _ o _ c.assume_images.ensures.table in record {
+      answer = λ s images.
           passes_by_clash _ _ _ _ _ _ pre.0 pre.1.0 _ pre.1.1 _ o s images (sym c.in-Open.is ∙ c.assume_images.ensures.answer) _
-          c.assume_images.ensures.table _ _ c.propagate-union.ensures; table = c.clear_values.ensures ∙ propagated_cleared _ _ _ _ _ _ pre.0 _ w _ _ c.propagate-union.ensures }
+          c.assume_images.ensures.table _ _ c.propagate-union.ensures;
+      table = c.clear_values.ensures ∙ propagated_cleared _ _ _ _ _ _ pre.0 _ w _ _ c.propagate-union.ensures;
+    }

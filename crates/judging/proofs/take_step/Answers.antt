@@ -1,16 +1,11 @@
 -- `judging::take_step` meets its contract.
 -- Assumes nothing.
-use mathlib.Core.Path.{◌≡◌, sym, ap, ◌∙◌}
+use mathlib.Core.Path.{sym, ap, ◌∙◌}
 use native.Mathlib.Omega.{arith}
 use lib.ListN.{length}
-use Rattle.paper.specs.Files.{ok}
-use Rattle.paper.specs.Refusals.{read_fields}
-use Rattle.lookup.specs.Live.{live}
 use Rattle.steps.proofs.Fields.{lie, whole, whole_next, refused}
 use Rattle.steps.proofs.Numbers.{removed_length}
 use Rattle.steps.proofs.Step.{numbers_of}
-use Rattle.judging.specs.declared.Judgement.TheVariants.{Passed}
-use Rattle.judging.specs.Step.{JudgementIs}
 use Rattle.judging.proofs.Laws.{fields_stop, step_stopped, numbers_used, deleted_done, number_free, added_done}
 use Rattle.judging.proofs.take_step.Goals as goal
 

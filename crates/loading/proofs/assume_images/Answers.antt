@@ -1,5 +1,5 @@
 -- `loading::assume_images` meets its contract. Assumes nothing.
-use Prim.Native.Nat.{ℕ, ◌-◌, ◌+◌}
+use Prim.Native.Nat.{ℕ, ◌+◌}
 use mathlib.Core.Path.{sym, ap, subst, ◌∙◌}
 use mathlib.Core.List.{List}
 use native.Mathlib.Omega.{arith}
@@ -56,10 +56,10 @@ loop-i-preserved c =
       omega arith,
       elim c.if-a-ne1.branch [
         | then-a-ne1+else-is_true w ↦
-          let u = w.t-is ∙ w.make_true.ensures ∙ ap (make_true c.loop-i.t) w.complement.ensures.0 in
-          image_next _ _ _ _ k h _ e c.if-a-eq0.false w.if-a-ne1.true (sym w.is_true.ensures ∙ w.if-is_true.false) _ u
+            let u = w.t-is ∙ w.make_true.ensures ∙ ap (make_true c.loop-i.t) w.complement.ensures.0 in
+            image_next _ _ _ _ k h _ e c.if-a-eq0.false w.if-a-ne1.true (sym w.is_true.ensures ∙ w.if-is_true.false) _ u
         | else-a-ne1 w ↦
-          subst (λ (u : List ℕ). Going imaged a.clause.now a.t.now u (c.loop-i.i + 2)) (sym w.t-is) (image_false _ _ _ _ k h _ e w.if-a-ne1.false)
+            subst (λ (u : List ℕ). Going imaged a.clause.now a.t.now u (c.loop-i.i + 2)) (sym w.t-is) (image_false _ _ _ _ k h _ e w.if-a-ne1.false)
       ],
     )
 

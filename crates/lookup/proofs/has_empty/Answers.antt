@@ -1,5 +1,4 @@
 -- `has_empty` finds an empty clause among the live ones, or there is none. The invariant: no word passed stands for an empty clause.
-use Prim.Native.Nat.{◌-◌}
 use native.Mathlib.Omega.{arith}
 use borrow.Author.Count.{below_more}
 use lib.ListN.{get_or}
@@ -20,10 +19,10 @@ loop-n-preserved c =
     let a = c.args in
     let C = NotEmpty a.formula.now a.proof.now (get_or a.words.now c.loop-n.n 0) in
     let here : C =
-        elim c.if-words-n-ge-LIVE.branch [
-          | then-words-n-ge-LIVE+else-clause-lt2 w ↦ long_clause _ _ _ _ w.clause_at-clause.ensures w.if-clause-lt2.false
-          | else-words-n-ge-LIVE w ↦ no_clause _ _ _ w.if-words-n-ge-LIVE.false
-        ] in
+    elim c.if-words-n-ge-LIVE.branch [
+      | then-words-n-ge-LIVE+else-clause-lt2 w ↦ long_clause _ _ _ _ w.clause_at-clause.ensures w.if-clause-lt2.false
+      | else-words-n-ge-LIVE w ↦ no_clause _ _ _ w.if-words-n-ge-LIVE.false
+    ] in
     (omega arith, below_more _ _ c.loop-n.invariant.1 here)
 
 pub returns : goal.returns

@@ -2,8 +2,7 @@
 use Prim.Native.Nat.{◌-◌}
 use mathlib.Core.Path.{refl, sym, ◌∙◌}
 use native.Mathlib.Omega.{arith}
-use lib.ListN.{length, length-set}
-use Rattle.lookup.specs.Clause.{lowered}
+use lib.ListN.{length-set}
 use Rattle.lookup.proofs.Clause.{lowered_stop, lowered_next, lowered_end}
 use Rattle.lookup.proofs.lower.Goals as goal
 
@@ -15,12 +14,11 @@ returns-then-words-k-ge-LIVE c =
     sym (lowered_stop _ _ _ c.loop-k-test.true c.if-words-k-ge-LIVE.true) ∙ c.loop-k.invariant.2
 
 pub loop-k-preserved : goal.loop-k-preserved
-loop-k-preserved c =
-    (
-      length-set c.loop-k.words (c.loop-k.k - 1) c.args.word ∙ c.loop-k.invariant.0,
-      omega arith,
-      lowered_next _ _ _ c.loop-k-test.true c.if-words-k-ge-LIVE.false ∙ c.loop-k.invariant.2,
-    )
+loop-k-preserved c = (
+  length-set c.loop-k.words (c.loop-k.k - 1) c.args.word ∙ c.loop-k.invariant.0,
+  omega arith,
+  lowered_next _ _ _ c.loop-k-test.true c.if-words-k-ge-LIVE.false ∙ c.loop-k.invariant.2,
+)
 
 pub returns : goal.returns
 returns c =

@@ -1,5 +1,5 @@
 -- `lower` lowers the words right below a number. The invariant: what is left to do makes what all of it makes.
-use Prim.Native.Nat.{◌-◌, ◌≤◌}
+use Prim.Native.Nat.{◌≤◌}
 use mathlib.Core.Path.{◌≡◌}
 use lib.ListN.{length}
 use Rattle.lookup.specs.Clause.{lowered}

@@ -1,6 +1,5 @@
 -- `remove` clears the number, and lowers the words right below it.
 use Prim.Native.Nat.{◌+◌}
-use mathlib.Core.Path.{◌∙◌}
 use native.Mathlib.Omega.{arith}
 use lib.ListN.{length-set}
 use Rattle.lookup.proofs.Clause.{cleared_by}

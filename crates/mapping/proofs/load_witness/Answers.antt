@@ -1,5 +1,5 @@
 -- `mapping::load_witness` meets its contract: the variables passed are those that the table has mapped, each listed once. Assumes nothing.
-use Prim.Native.Nat.{ℕ, ◌<◌, ◌-◌, ◌+◌}
+use Prim.Native.Nat.{ℕ, ◌<◌, ◌+◌}
 use mathlib.Core.Path.{◌≡◌, refl, sym, ap, ap₂, subst, ◌∙◌}
 use mathlib.Core.List.{List}
 use native.Mathlib.Omega.{arith}

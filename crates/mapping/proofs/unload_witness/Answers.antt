@@ -1,6 +1,6 @@
 -- `mapping::unload_witness` meets its contract: what is left to clear, from the table now, gives what all gives from the table at entry. Assumes nothing.
 use borrow.Author.Rules.{rules}
-use Prim.Native.Nat.{ℕ, ◌<◌, ◌-◌, ◌+◌}
+use Prim.Native.Nat.{ℕ, ◌<◌, ◌+◌}
 use mathlib.Core.Path.{refl, sym, ap, subst, ◌∙◌}
 use native.Mathlib.Omega.{arith}
 use Rattle.table.specs.Table.{clear_image}

@@ -1,5 +1,4 @@
 -- `memory::zero_words` meets its contract. Assumes nothing.
-use Prim.Native.Nat.{◌-◌}
 use Rattle.memory.proofs.Zeroing.{zeroing_start, zeroing_turn, zeroing_end}
 use Rattle.memory.proofs.zero_words.Goals as goal
 

@@ -1,12 +1,8 @@
 -- `reading::read_clause` meets its contract. Assumes nothing.
-use Prim.Native.Nat.{ℕ, suc}
-use mathlib.Core.Path.{◌≡◌, refl, sym, ◌∙◌}
-use Rattle.paper.specs.declared.Reason.{Reason}
-use Rattle.paper.specs.declared.Reason.TheVariants.{FormulaField, FormulaCode, FormulaTwice}
-use Rattle.paper.specs.Files.{bad, even}
-use Rattle.paper.specs.Refusals.{read_clauses}
+use mathlib.Core.Path.{refl, sym, ◌∙◌}
+use Rattle.paper.specs.declared.Reason.TheVariants.{FormulaField}
+use Rattle.paper.specs.Files.{even}
 use Rattle.field.proofs.Laws.{found, found_next, wrong}
-use Rattle.clauses.specs.declared.ClauseCheck.{ClauseCheck}
 use Rattle.clauses.specs.Check.{clause_said}
 use Rattle.reading.proofs.Clause.{clause_ends, clause_wrong, clause_checkable, clause_bad, clause_taken}
 use Rattle.reading.proofs.read_clause.Goals as goal
@@ -19,16 +15,16 @@ returns-in_default c =
     record { said = clause_wrong _ _ _ c.if-formula-at.false (wrong FormulaField 2 even _ _ (sym c.in_default.is ∙ c.expect.ensures FormulaField)); table = refl }
 
 pub check_clause-requires : goal.check_clause-requires
-check_clause-requires c =
-    (
-      clause_checkable _ _ _ c.if-formula-at.false _ (found FormulaField 2 even _ _ _ _ (sym c.in-Found.is ∙ c.expect.ensures FormulaField)) c.requires.0,
-      c.requires.1,
-    )
+check_clause-requires c = (
+  clause_checkable _ _ _ c.if-formula-at.false _ (found FormulaField 2 even _ _ _ _ (sym c.in-Found.is ∙ c.expect.ensures FormulaField)) c.requires.0,
+  c.requires.1,
+)
 
 pub returns-in-Fine : goal.returns-in-Fine
 unfolding clause_said
 returns-in-Fine c =
-    record { said = clause_taken
+    record {
+      said = clause_taken
           _ _ _
           c.if-formula-at.false
           _
@@ -38,7 +34,9 @@ returns-in-Fine c =
           c.in-Fine.is
           refl
           _
-          (found_next _ _ _ (sym c.in-Found.is ∙ c.expect.ensures FormulaField)); table = c.check_clause.ensures.table }
+          (found_next _ _ _ (sym c.in-Found.is ∙ c.expect.ensures FormulaField));
+      table = c.check_clause.ensures.table;
+    }
 
 pub returns-in-Range : goal.returns-in-Range
 unfolding clause_said

@@ -14,10 +14,13 @@ enter_clauses-requires c =
 pub returns-then-at-formula : goal.returns-then-at-formula
 returns-then-at-formula c =
     let h = head_said_as _ _ _ c.read_head.ensures c.in-Limits.is in
-    let q = clauses_said_as _ _ _ _ _ _ _ _ c.enter_clauses.ensures.said c.in-Next.is in record { said = record {
+    let q = clauses_said_as _ _ _ _ _ _ _ _ c.enter_clauses.ensures.said c.in-Next.is in record {
+      said = record {
         read = bytes_follow _ _ _ _ h _ _ _ q c.if-at-formula.true;
         words = zeroed _ _ _ c.requires.1.1.0 c.enter_clauses.auto.words c.zero_words-then-at-formula.ensures;
-      }; table = c.enter_clauses.ensures.table }
+      };
+      table = c.enter_clauses.ensures.table;
+    }
 
 pub overflow_add-result : goal.overflow_add-result
 overflow_add-result c =
@@ -32,10 +35,13 @@ returns-in-Bad c =
 pub returns-in-Bad-enter_clauses : goal.returns-in-Bad-enter_clauses
 returns-in-Bad-enter_clauses c =
     let h = head_said_as _ _ _ c.read_head.ensures c.in-Limits.is in
-    let q = clauses_said_as _ _ _ _ _ _ _ _ c.enter_clauses.ensures.said c.in-Bad-enter_clauses.is in record { said = record {
+    let q = clauses_said_as _ _ _ _ _ _ _ _ c.enter_clauses.ensures.said c.in-Bad-enter_clauses.is in record {
+      said = record {
         read = clauses_refused _ _ _ _ h _ _ q;
         words = zeroed _ _ _ c.requires.1.1.0 c.enter_clauses.auto.words c.zero_words.ensures;
-      }; table = c.enter_clauses.ensures.table }
+      };
+      table = c.enter_clauses.ensures.table;
+    }
 
 pub returns-else-at-formula : goal.returns-else-at-formula
 returns-else-at-formula c =

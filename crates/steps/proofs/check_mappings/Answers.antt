@@ -1,9 +1,8 @@
 -- `check_mappings` refuses what the paper refuses. The invariant: the check of the mappings left decides the check of all.
-use Prim.Native.Nat.{ℕ, ◌+◌, ◌-◌, ◌≤◌, ◌<◌}
+use Prim.Native.Nat.{◌+◌, ◌<◌}
 use mathlib.Core.Path.{sym, ◌∙◌}
 use native.Mathlib.Omega.{arith}
-use lib.ListN.{length}
-use Rattle.steps.proofs.Mappings.{left, variable_low, variable_high, atom_high, atom_fine, all_fine, decided}
+use Rattle.steps.proofs.Mappings.{variable_low, variable_high, atom_high, atom_fine, all_fine, decided}
 use Rattle.steps.proofs.check_mappings.Goals as goal
 
 pub returns-then-v-lt1 : goal.returns-then-v-lt1

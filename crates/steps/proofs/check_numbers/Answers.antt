@@ -1,10 +1,8 @@
 -- `check_numbers` refuses what the paper refuses. The invariant: the check of the numbers left decides the check of all.
-use Prim.Native.Nat.{ℕ, ◌+◌, ◌-◌, ◌≤◌, ◌<◌}
+use Prim.Native.Nat.{◌+◌, ◌≤◌, ◌<◌}
 use mathlib.Core.Path.{sym, ◌∙◌}
 use native.Mathlib.Omega.{arith}
-use lib.ListN.{length}
-use Rattle.lookup.specs.Live.{live}
-use Rattle.steps.proofs.Numbers.{left, not_above, not_live, too_high, number_fine, all_fine, decided}
+use Rattle.steps.proofs.Numbers.{not_above, not_live, too_high, number_fine, all_fine, decided}
 use Rattle.steps.proofs.check_numbers.Goals as goal
 
 pub returns-then-n-last : goal.returns-then-n-last
@@ -25,8 +23,7 @@ returns-then-words-n-lt-LIVE c =
 
 pub loop-i-preserved : goal.loop-i-preserved
 loop-i-preserved c =
-    let whole : c.loop-i.i + 1 < c.args.e.start + c.args.e.size = omega (arith, c.loop-i.invariant.1, c.requires.1) in
-    (
+    let whole : c.loop-i.i + 1 < c.args.e.start + c.args.e.size = omega (arith, c.loop-i.invariant.1, c.requires.1) in (
       omega arith,
       omega (arith, c.loop-i.invariant.1),
       λ f. sym (number_fine _ _ _ _ _ whole c.requires.0 _ c.pair_at-n.ensures.0 f c.if-n-last.false c.if-words-n-lt-LIVE.false) ∙ c.loop-i.invariant.2 f,

@@ -1,8 +1,7 @@
 -- `remove_numbers` clears the listed numbers, from the last to the first. The invariant: those from the place on are cleared.
-use Prim.Native.Nat.{◌+◌, ◌-◌}
+use Prim.Native.Nat.{◌+◌}
 use mathlib.Core.Path.{refl, ◌∙◌}
 use native.Mathlib.Omega.{arith}
-use Rattle.steps.specs.Steps.{removed}
 use Rattle.steps.proofs.Numbers.{removed_none, removed_more, removed_decided, listed_below}
 use Rattle.steps.proofs.remove_numbers.Goals as goal
 

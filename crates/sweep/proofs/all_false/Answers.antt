@@ -1,5 +1,4 @@
 -- `all_false` tells whether the literals from a place on are all false. The invariant: those passed are. Assumes nothing.
-use Prim.Native.Nat.{◌-◌}
 use mathlib.Core.Path.{◌∙◌}
 use native.Mathlib.Omega.{arith}
 use Rattle.sweep.proofs.Laws.{passed_start, both_bytes, code_range, value_less, unset_left, true_left, passed_false, all_passed}

@@ -1,6 +1,6 @@
 -- `sweep` is one sweep over the live clauses. The inner invariant: the literals passed are all false; the outer: the visits that are left,
 -- from the state now, make the state that the whole sweep makes. Assumes nothing.
-use Prim.Native.Nat.{ℕ, suc, ◌+◌, ◌-◌, ◌/◌, ◌%◌}
+use Prim.Native.Nat.{suc, ◌+◌, ◌/◌, ◌%◌}
 use mathlib.Core.Path.{◌≡◌, refl, ap, ◌∙◌}
 use native.Mathlib.Omega.{arith}
 use lib.ListN.{length}
@@ -35,7 +35,7 @@ value-requires c =
 pub is_unset-requires : goal.is_unset-requires
 is_unset-requires c =
     let read : c.wide-value.result ≡ value_at c.clauses.t (c.pair_at-code.result / 2) =
-        c.wide-value.ensures.0 ∙ c.value.ensures ∙ ap (λ t. value_at t (c.pair_at-code.result / 2)) c.literals.invariant.1 in
+    c.wide-value.ensures.0 ∙ c.value.ensures ∙ ap (λ t. value_at t (c.pair_at-code.result / 2)) c.literals.invariant.1 in
     value_less _ _ _ read
 
 pub all_false-requires : goal.all_false-requires
@@ -50,7 +50,7 @@ make_true-requires c =
 pub literals-preserved : goal.literals-preserved
 literals-preserved c =
     let read : c.wide-value.result ≡ value_at c.clauses.t (c.pair_at-code.result / 2) =
-        c.wide-value.ensures.0 ∙ c.value.ensures ∙ ap (λ t. value_at t (c.pair_at-code.result / 2)) c.literals.invariant.1 in
+    c.wide-value.ensures.0 ∙ c.value.ensures ∙ ap (λ t. value_at t (c.pair_at-code.result / 2)) c.literals.invariant.1 in
     let v = c.literals.invariant in (
       v.0,
       v.1,
@@ -64,7 +64,7 @@ pub clauses-preserved-then-words-k-ge-LIVE : goal.clauses-preserved-then-words-k
 clauses-preserved-then-words-k-ge-LIVE c =
     let code = c.pair_at-code.result in
     let read : c.wide-value.result ≡ value_at c.clauses.t (c.pair_at-code.result / 2) =
-        c.wide-value.ensures.0 ∙ c.value.ensures ∙ ap (λ t. value_at t (c.pair_at-code.result / 2)) c.literals.invariant.1 in
+    c.wide-value.ensures.0 ∙ c.value.ensures ∙ ap (λ t. value_at t (c.pair_at-code.result / 2)) c.literals.invariant.1 in
     let v = c.clauses.invariant in
     let u = c.literals.invariant in
     let h = c.clauses-test.true in
@@ -76,22 +76,22 @@ clauses-preserved-then-words-k-ge-LIVE c =
     elim c.if-is_unset.branch [
       -- one literal was left
       | then-is_unset+then-all_false w ↦
-        let r = code_range u.4 b q in
-        held_by
-        (held_set v h e at code r.0 r.1 (omega (arith, u.0, ap length u.1))
-        (visit_one_left u.4 _ _ b q read (c.is_unset.ensures.0 w.if-is_unset.true) (w.all_false.ensures ∙ same) w.if-all_false.true))
-        (w.t-is ∙ w.make_true.ensures ∙ ap (λ t. set_value t (code / 2) (suc (code % 2))) u.1) (w.literals-is ∙ ap (λ n. n + 1) u.2) u.3
+          let r = code_range u.4 b q in
+          held_by
+          (held_set v h e at code r.0 r.1 (omega (arith, u.0, ap length u.1))
+          (visit_one_left u.4 _ _ b q read (c.is_unset.ensures.0 w.if-is_unset.true) (w.all_false.ensures ∙ same) w.if-all_false.true))
+          (w.t-is ∙ w.make_true.ensures ∙ ap (λ t. set_value t (code / 2) (suc (code % 2))) u.1) (w.literals-is ∙ ap (λ n. n + 1) u.2) u.3
       -- a second literal was not false
       | then-is_unset+else-all_false w ↦
-        held_by
-        (held_next v h e at
-        (visit_two_left u.4 _ _ b q read (c.is_unset.ensures.0 w.if-is_unset.true) (w.all_false.ensures ∙ same) w.if-all_false.false))
-        (w.t-is ∙ u.1) (w.literals-is ∙ u.2) u.3
+          held_by
+          (held_next v h e at
+          (visit_two_left u.4 _ _ b q read (c.is_unset.ensures.0 w.if-is_unset.true) (w.all_false.ensures ∙ same) w.if-all_false.false))
+          (w.t-is ∙ u.1) (w.literals-is ∙ u.2) u.3
       -- a literal was true
       | else-is_unset+then-value-code w ↦
-        held_by
-        (held_next v h e at (visit_true_left u.4 _ _ b q read w.if-value-code.true))
-        (w.t-is ∙ u.1) (w.literals-is ∙ u.2) u.3
+          held_by
+          (held_next v h e at (visit_true_left u.4 _ _ b q read w.if-value-code.true))
+          (w.t-is ∙ u.1) (w.literals-is ∙ u.2) u.3
     ]
 
 pub clauses-smaller : goal.clauses-smaller
@@ -109,11 +109,11 @@ returns c =
     let v = c.clauses.invariant in
     let a = c.args in
     let done : Done 4095 a.formula.now a.proof.now a.words.now a.t.now a.p c.clauses-test.t c.clauses-test.literals c.clauses-test.clash =
-        elim c.clauses-test.branch [
-          | else-clauses-test w ↦ rw (w.t-is, w.literals-is, w.clash-is) (held_end v w.clauses-test.false)
-          | then-clauses-test+then-words-k-ge-LIVE+then-clause-i w ↦
-            let u = w.literals.invariant in
-            rw (w.t-is ∙ u.1, w.literals-is ∙ u.2, w.clash-is)
-            (held_clash v w.clauses-test.true w.if-words-k-ge-LIVE.true w.clause_at-clause.ensures (visit_none_left u.4 _ _ w.if-clause-i.true))
-        ] in
+    elim c.clauses-test.branch [
+      | else-clauses-test w ↦ rw (w.t-is, w.literals-is, w.clash-is) (held_end v w.clauses-test.false)
+      | then-clauses-test+then-words-k-ge-LIVE+then-clause-i w ↦
+          let u = w.literals.invariant in
+          rw (w.t-is ∙ u.1, w.literals-is ∙ u.2, w.clash-is)
+          (held_clash v w.clauses-test.true w.if-words-k-ge-LIVE.true w.clause_at-clause.ensures (visit_none_left u.4 _ _ w.if-clause-i.true))
+    ] in
     done_swept done

@@ -1,10 +1,9 @@
 -- `table::clear_values` meets its contract: before variable v, those below v are unset. Assumes nothing.
 use borrow.Author.Rules.{rules}
-use Prim.Native.Nat.{suc, ◌-◌}
+use Prim.Native.Nat.{suc}
 use mathlib.Core.Path.{◌≡◌, refl, ap, ◌∙◌}
 use native.Mathlib.Omega.{arith}
 use native.Mathlib.Numerals.{add-one}
-use lib.ListN.{length}
 use Rattle.table.specs.Table.{set_value, clear_to, clear_values}
 use Rattle.table.proofs.clear_values.Goals as goal
 
