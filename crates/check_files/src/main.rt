@@ -3,29 +3,31 @@
 
 ghost use Rattle.std.specs.Prelude.{◌≤◌, length};
 
-use libc::STDOUT_FILENO;
+use std::env::FillError;
+use std::fs::File;
+use std::io;
+use std::io::{Read, Write};
+use std::rt::{Env, Files};
 
 // More bytes than any buffer has: the answer of a function that could not read a file.
 const UNREAD: usize = 18446744073709551615;
 
-// One read of fd into buf from a place on, and how many bytes came: none at the end of the file, UNREAD where the read fails.
-fn load_some(fd: i32, buf: &mut [u8], at: usize) -> usize
+// One read of a file into buf from a place on, and how many bytes came: none at the end of the file, UNREAD where the read fails.
+fn load_some(file: &mut File, buf: &mut [u8], at: usize) -> usize
     requires { at ≤ length buf.old }
 {
-    let part = &mut buf[at..];
-    let got = libc::read(fd, part);
-    if got < 0 {
-        return UNREAD;
+    match file.read(&mut buf[at..]) {
+        Ok(got) => got,
+        Err(_) => UNREAD,
     }
-    io::count(got, part)
 }
 
-// Reads the whole of fd to the start of buf, and answers how many bytes it has, or UNREAD where a read fails or buf has no room for
+// Reads the whole of a file to the start of buf, and answers how many bytes it has, or UNREAD where a read fails or buf has no room for
 // them. A full buf is followed by one read more: only that tells the end of the file from a byte too many, or from a fault.
-fn load(fd: i32, buf: &mut [u8]) -> usize {
+fn load(file: &mut File, buf: &mut [u8]) -> usize {
     let mut at: usize = 0;
     while at < buf.len() {
-        let n = load_some(fd, &mut *buf, at);
+        let n = load_some(file, &mut *buf, at);
         if n == 0 {
             return at;
         }
@@ -35,59 +37,69 @@ fn load(fd: i32, buf: &mut [u8]) -> usize {
         at += n;
     }
     let mut one = [0u8; 1];
-    let more = libc::read(fd, &mut one);
-    if more == 0 {
+    if load_some(file, &mut one, 0) == 0 {
         return at;
     }
     UNREAD
 }
 
 // Reads the whole of the file that argument i names.
-fn load_named(i: usize, buf: &mut [u8]) -> usize {
-    let mut path = io::buffer();
-    let n = os::arg(i, &mut path);
-    if os::errno() != 0 {
+fn load_named(rt: &HostRuntime, i: usize, buf: &mut [u8]) -> usize {
+    let mut path = [0u8; 4096];
+    let Ok(n) = rt.arg(i, &mut path) else {
         return UNREAD;
-    }
-    let fd = os::open_read(&path[..n]);
-    if fd < 0 {
+    };
+    let Ok(name) = str::from_utf8(&path[..n]) else {
         return UNREAD;
-    }
-    let size = load(fd, buf);
-    libc::close(fd);
-    size
+    };
+    let Ok(mut file) = File::open(rt, name) else {
+        return UNREAD;
+    };
+    load(&mut file, buf)
 }
 
-fn unread() {
-    io::write_all(STDOUT_FILENO, b"unread\n");
+// Whether argument i is there, whatever its length.
+fn is_there(rt: &HostRuntime, i: usize) -> bool {
+    let mut start = [0u8; 1];
+    match rt.arg(i, &mut start) {
+        Ok(_) | Err(FillError::TooLong) => true,
+        Err(FillError::NotPresent) => false,
+    }
+}
+
+fn unread(rt: &HostRuntime) -> io::Result<()> {
+    rt.stdout().write_all(b"unread\n")
 }
 
 // Prints the answer on the first n bytes of formula and the first k of proof.
-fn tell<'a>(formula: &'a [u8], n: usize, proof: &'a [u8], k: usize) {
+fn tell<'a>(
+    rt: &HostRuntime,
+    formula: &'a [u8],
+    n: usize,
+    proof: &'a [u8],
+    k: usize,
+) -> io::Result<()> {
     if formula.len() < n {
-        unread();
-        return;
+        return unread(rt);
     }
     if proof.len() < k {
-        unread();
-        return;
+        return unread(rt);
     }
     let printed = cli::answer(&formula[0..n], &proof[0..k]);
     let text = printed.bytes;
     let size = printed.size;
-    io::write_all(STDOUT_FILENO, &text[0..size]);
+    rt.stdout().write_all(&text[0..size])
 }
 
-fn main() {
-    if os::arg_count() != 3 {
-        unread();
-        return;
+fn main(rt: HostRuntime) -> io::Result<()> {
+    if !is_there(&rt, 2) || is_there(&rt, 3) {
+        return unread(&rt);
     }
-    let mut formula = io::large_buffer();
-    let mut proof = io::large_buffer();
+    let mut formula = [0u8; 65536];
+    let mut proof = [0u8; 65536];
     let f: &mut [u8] = &mut formula;
     let p: &mut [u8] = &mut proof;
-    let n = load_named(1, f);
-    let k = load_named(2, p);
-    tell(f, n, p, k);
+    let n = load_named(&rt, 1, f);
+    let k = load_named(&rt, 2, p);
+    tell(&rt, f, n, p, k)
 }
