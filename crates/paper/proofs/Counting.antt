@@ -7,14 +7,14 @@ use mathlib.Core.Bool.{Bool, true, false}
 use mathlib.Core.List.Memᴰ
 use mathlib.Core.List.{List, [], ◌∷◌, map}
 use native.Mathlib.Omega.{arith}
-use lib.Dec.{eqb, leb}
+use lib.Dec.{eqb}
 use lib.ListN.{length, length-map}
 use Rattle.paper.specs.declared.Reason.{Reason}
 use Rattle.paper.specs.Atoms.{◌∈◌, Clause}
-use Rattle.paper.specs.Files.{Read, ok, bad, ◌>>◌, need}
+use Rattle.paper.specs.Files.{ok}
 use Rattle.paper.specs.Refusals.{check_clause}
 use Rattle.paper.specs.Valid.{Distinct, Codes, Apart}
-use Rattle.paper.proofs.Lists.{eqb_yes, eqb_no, leb_within, map_out}
+use Rattle.paper.proofs.Lists.{eqb_yes, eqb_no, map_out}
 use Rattle.paper.proofs.Rules.{clause_exactly}
 
 -- a list without the first n in it; in one of different numbers there is no second
@@ -77,21 +77,8 @@ few_literals vars C codes apart =
     variable v m =
         let r = map_out (λ l. l / 2) C m in
         let h = codes r.0 r.1 in
-        let e = r.2 in
+        let half = r.2 in
         (omega arith, omega arith)
-
--- what it says of the tests that the clauses of formulas and proofs meet: after 5 and 6, or 9 and 10, "more than V literals" is never so,
--- whatever its reason and place would be
-pub count_idle : (range twice : Reason) (vars p : ℕ) (C : Clause) (long : Reason) (tag : ℕ)
-    → (check_clause range twice vars p C >> need (leb (length C) vars) long tag) ≡ check_clause range twice vars p C
-unfolding need ◌>>◌
-count_idle range twice vars p C long tag = go (check_clause range twice vars p C) refl
-  where
-    go : (m : Read (Unit {0})) → check_clause range twice vars p C ≡ m → (m >> need (leb (length C) vars) long tag) ≡ m
-    go (ok tt) e =
-        let h = (clause_exactly range twice vars p C).0 e in
-        rw (leb_within (length C) vars (few_literals vars C h.0 h.1))
-    go (bad r q) e = refl
 
 -- V literals are not too many: those of all the variables are read, at any V
 unfoldable pub full : ℕ → Clause

@@ -12,7 +12,8 @@ use Rattle.paper.specs.Refusals.{read_formula}
 use Rattle.paper.specs.Answers.{taken, stops, Judged, rup, sr, wsr, deleted, Steps, refuted, held, unread, judged, goes_on, Answer, proof_judged, stowed, Carried, start, step}
 use Rattle.paper.proofs.Judging.{judged_once}
 use Rattle.paper.proofs.Answering.{same_read}
-use Rattle.paper.proofs.Soundness.{wsr_sound, sr_sound, rup_step_sound, delete_sound, empty_refutes}
+use Rattle.paper.proofs.Soundness.{rup_step_sound, delete_sound, empty_refutes}
+use Rattle.paper.proofs.Moves.{wsr_sound, sr_sound}
 
 -- one step
 pub step_carries : {F : Formula} {next : ℕ} {G : Formula} {m : ℕ} {t : Step} → Judged F next t (taken G m) → (I : Stowage) → Meets I F → Meets (stowed t I) G

@@ -1,24 +1,23 @@
 -- Paper 02, §13, "Two facts for the manual": of a WSR step with a longer MODULO list, and of one with an empty witness. "Both concern the
 -- one step, past reasons 8 to 12; later steps may differ."
 -- Assumes nothing.
-use Prim.Native.Nat.{ℕ, zero, suc, ◌+◌, ◌*◌, ◌%◌, ◌/◌, ◌≤◌}
-use mathlib.Core.Path.{◌≡◌, refl, sym, ap, ◌∙◌, subst}
-use mathlib.Core.Logic.{◌⊎◌, inl, inr, ⊎_elim, ◌↔◌}
-use mathlib.Core.Bool.{Bool, true, false}
+use Prim.Native.Nat.{ℕ, suc}
+use mathlib.Core.Path.{◌≡◌, refl, sym, ◌∙◌, subst}
+use mathlib.Core.Logic.{⊎_elim, ◌↔◌}
 use mathlib.Core.List.Memᴰ
 use mathlib.Core.List.{List, [], ◌∷◌, ◌++◌, map}
 use native.Mathlib.Omega.{arith}
-use lib.Dec.{eqb}
 use Rattle.paper.specs.declared.Reason.{Reason}
 use Rattle.paper.specs.declared.Reason.TheVariants.{NotRup, NotPassing}
 use Rattle.paper.specs.declared.Verdict.TheVariants.{Refuted}
-use Rattle.paper.specs.Atoms.{complement, ◌∈◌, Clause, Formula, Live, Witness}
+use Rattle.paper.specs.Atoms.{◌∈◌, Clause, Formula, Live, Witness}
 use Rattle.paper.specs.Files.{File, rup_step, wsr_step}
-use Rattle.paper.specs.Conditions.{look, image, Derived, given, unit, Clash, both, broken, RUP, Trivialises, to_true, to_complements, under, Passes, follows, after}
+use Rattle.paper.specs.Conditions.{under, Passes, follows, after}
 use Rattle.paper.specs.Answers.{taken, stops, Judged, not_rup, wsr_lowest, wsr_new, refused, Answer}
 use Rattle.paper.specs.Valid.{Valid, Seen}
-use Rattle.paper.proofs.Lists.{complement_even, eqb_yes, eqb_no, map_out, map_in, under_in, under_out}
-use Rattle.paper.proofs.Sides.{image_variable, derived_least, rup_live, passes_exactly, Asks, only_taken, always_taken, lowest_wsr}
+use Rattle.paper.proofs.Lists.{under_in}
+use Rattle.paper.proofs.Sides.{rup_live, Asks, only_taken, always_taken, lowest_wsr}
+use Rattle.paper.proofs.Empty.{rup_more, rup_passes, image_itself, empty_witness}
 use Rattle.paper.proofs.Cases.{Case, case, modulo_none, answer_of, cases_right}
 
 -- 1. The first: "a WSR step that is taken with one MODULO list is also taken with any longer list of live numbers that holds it".
@@ -29,78 +28,7 @@ longer_taken {F} {next} {C} {s} modulo longer holds j =
     let asked = (only_taken j).0 in
     always_taken F next (wsr_step C s longer) (asked.0, λ n D q out. asked.1 n D q (λ named. out (holds n named)))
 
--- 2. Towards the second. Propagation from more literals clashes too: where C is RUP every clause passes, whatever the witness.
-module _ (F : Formula) {A B : List ℕ} (more : (l : ℕ) → l ∈ A → l ∈ B) where
-  derived_more : {l : ℕ} → Derived F A l → Derived F B l
-  derived_more = derived_least F A (Derived F B) (record { holds = λ l m. given (more l m); closed = λ n D l q m fellows. unit q m fellows })
-
-  clash_more : Clash F A → Clash F B
-  clash_more (both p q) = both (derived_more p) (derived_more q)
-  clash_more (broken q all) = broken q (λ k m. derived_more (all k m))
-
-rup_more : (F : Formula) (C E : Clause) → ((l : ℕ) → l ∈ C → l ∈ E) → RUP F C → RUP F E
-rup_more F C E more r = clash_more F complements r
-  where
-    complements : (a : ℕ) → a ∈ map complement C → a ∈ map complement E
-    complements a m =
-        let q = map_out complement C m in
-        subst (λ (x : ℕ). x ∈ map complement E) (sym q.2) (map_in complement (more q.0 q.1))
-
-rup_passes : (F : Formula) (C : Clause) (s : Witness) (D : Clause) → RUP F C → Passes F C s D
-rup_passes F C s D r = follows (rup_more F C (C ++ under s D) (λ l m. Memᴰ.append_left (under s D) m) r)
-
--- with a literal and its complement in it, a clause is RUP over any clauses
-rup_both : (F : Formula) (C : Clause) (l : ℕ) → l ∈ C → complement l ∈ C → RUP F C
-rup_both F C l m k = both (given (map_in complement m)) (given (map_in complement k))
-
--- 3. The empty witness sends every atom to itself.
-look_itself : (v : ℕ) → look [] v ≡ 2 * v
-unfolding look
-look_itself zero = refl
-look_itself (suc v) = refl
-
-image_itself : (a : ℕ) → image [] a ≡ a
-image_itself a = go (eqb (a % 2) 0) refl
-  where
-    go : (b : Bool) → eqb (a % 2) 0 ≡ b → image [] a ≡ a
-    go true e =
-        let z = eqb_yes (a % 2) 0 e in
-        let q : a ≡ 2 * (a / 2) = omega arith in
-        ap (image []) q ∙ (image_variable [] (a / 2)).0 ∙ look_itself (a / 2) ∙ sym q
-    go false e =
-        let z = eqb_no (a % 2) 0 e in
-        let q : a ≡ 2 * (a / 2) + 1 = omega arith in
-        ap (image []) q ∙ (image_variable [] (a / 2)).1 ∙ ap complement (look_itself (a / 2)) ∙ complement_even (a / 2) ∙ sym q
-
-under_itself : (D : Clause) (l : ℕ) → l ∈ under [] D → l ∈ D
-under_itself D l m = let q = under_out [] D m in subst (λ (k : ℕ). k ∈ D) (sym (q.2 ∙ image_itself q.0)) q.1
-
--- 4. The second: "A WSR step with an empty witness and empty MODULO passes its conditions exactly when the RUP step of the same clause
--- does, as corollary 9 says." Of what the reading has seen of C (`Seen`, by `Reading.read_step_seen`) this is needed: true is none of its
--- literals. A variable might stand in it twice.
-module _ (F : Formula) (C : Clause) (literals : (l : ℕ) → l ∈ C → 1 ≤ l) where
-  trivial_rup : Trivialises [] C → RUP F C
-  trivial_rup (to_true {l} m e) = absurd (omega (arith, literals l m, sym (image_itself l) ∙ e))
-  trivial_rup (to_complements {l} {k} m q e) =
-      rup_both F C k q (subst (λ (x : ℕ). x ∈ C) (sym (image_itself l) ∙ e ∙ ap complement (image_itself k)) m)
-
-  passes_rup : Passes F C [] C → RUP F C
-  passes_rup p = go ((passes_exactly F C [] C).0 p)
-    where
-      either : (l : ℕ) → (l ∈ C) ⊎ (l ∈ under [] C) → l ∈ C
-      either l (inl m) = m
-      either l (inr m) = under_itself C l m
-
-      go : Trivialises [] C ⊎ ((l : ℕ) × (l ∈ under [] C) × (complement l ∈ C)) ⊎ RUP F (C ++ under [] C) → RUP F C
-      go (inl t) = trivial_rup t
-      go (inr (inl r)) = rup_both F C r.0 (under_itself C r.0 r.1) r.2
-      go (inr (inr r)) = rup_more F (C ++ under [] C) C (λ l m. either l (Memᴰ.append_cases C m)) r
-
-  -- MODULO has no say in whether it is taken, empty or not: it only tells what is no longer live after the step
-  pub empty_witness : (modulo : List ℕ) → Asks F (wsr_step C [] modulo) ↔ Asks F (rup_step C)
-  empty_witness modulo = ((λ a. passes_rup a.0), λ r. (rup_passes F C [] C r, λ n D q out. rup_passes F C [] D r))
-
--- taken both, with the same clauses live after it and the same next number, or neither
+-- 2. The second, over `Empty.empty_witness`: taken both, with the same clauses live after it and the same next number, or neither
 pub empty_as_rup : (vars : ℕ) (F : Formula) (next : ℕ) (C : Clause) → Seen vars F next (rup_step C) → (G : Formula) (m : ℕ)
     → Judged F next (wsr_step C [] []) (taken G m) ↔ Judged F next (rup_step C) (taken G m)
 empty_as_rup vars F next C seen G m = (there, back)
@@ -136,7 +64,7 @@ empty_refused vars F next C modulo valid r n j = (wsr_reason j, own.0, not_rup (
     own : (n ≡ next) × (¬ (Passes F C [] C))
     own = ⊎_elim (λ q. absurd (q.3 (passes q.0 q.1))) (λ q. q) (lowest_wsr j).0
 
--- 5. Both facts, and what they do not say, worked by hand over V=4, 1:[1 2], 2:[1 -2], 3:[-1 2], 4:[-1 -2], 5:[-3 4].
+-- 3. Both facts, and what they do not say, worked by hand over V=4, 1:[1 2], 2:[1 -2], 3:[-1 2], 4:[-1 -2], 5:[-3 4].
 abbrev deck : File
 deck =
     (0x01 ∷ 0 ∷ 4 ∷ 0 ∷ 4 ∷ 0 ∷ 5 ∷ 0x02 ∷ 0 ∷ 4 ∷ 0 ∷ 2 ∷ 0 ∷ 4 ∷ 0x02 ∷ 0 ∷ 4 ∷ 0 ∷ 2 ∷ 0 ∷ 5 ∷ [])
@@ -174,9 +102,9 @@ facts =
     ∷ case deck (steps (0x22 ∷ 0 ∷ 4 ∷ 0 ∷ 1 ∷ 0 ∷ 5 ∷ []) (unmapped (modulo_one 3))) (refused NotPassing 2 7)
     ∷ []
 
-computed : map answer_of facts ≡ map (λ (c : Case). c.says) facts
-unfolding answer_of
-computed = refl
-
 pub facts_worked : (c : Case) → c ∈ facts → Answer 16384 8192 c.formula c.proof c.says
+unfolding answer_of
 facts_worked = cases_right facts computed
+  where
+    computed : map answer_of facts ≡ map (λ (c : Case). c.says) facts
+    computed = refl

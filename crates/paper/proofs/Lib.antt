@@ -4,6 +4,7 @@ pub mod Values
 pub mod Propagation
 pub mod Scan
 pub mod Soundness
+pub mod Moves
 pub mod Reading
 pub mod Judging
 pub mod Answering
@@ -14,5 +15,8 @@ pub mod Rows
 pub mod Sides
 pub mod Lines
 pub mod Rules
+pub mod Limits
+pub mod Empty
 pub mod Facts
 pub mod Counting
+pub mod Idle

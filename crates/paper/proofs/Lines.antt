@@ -5,7 +5,7 @@ use mathlib.Core.Path.{◌≡◌, refl, ap, ◌∙◌}
 use mathlib.Core.Logic.{◌≢◌, ◌⊎◌, inl, inr}
 use mathlib.Core.Bool.{Bool, true, false}
 use mathlib.Core.List.Memᴰ
-use mathlib.Core.List.{List, [], ◌∷◌, ◌++◌, map}
+use mathlib.Core.List.{List, [], ◌∷◌, ◌++◌}
 use native.Mathlib.Omega.{arith}
 use lib.Dec.{ltb}
 use Rattle.paper.specs.declared.Reason.{Reason}
@@ -98,12 +98,6 @@ line_held = refl
 pub line_far : line (refused NumberNotLive 120 1048570) ≡ 114 ∷ 101 ∷ 102 ∷ 117 ∷ 115 ∷ 101 ∷ 100 ∷ 32 ∷ 49 ∷ 49 ∷ 32 ∷ 49 ∷ 50 ∷ 48 ∷ 32 ∷ 49 ∷ 48 ∷ 52 ∷ 56 ∷ 53 ∷ 55 ∷ 48 ∷ 10 ∷ []
 unfolding digits word line
 line_far = refl
-
--- the reasons in the order of the paper's table
-pub reasons_numbered : map number_of (WorkShort ∷ FileLong ∷ FormulaField ∷ OverLimit ∷ FormulaCode ∷ FormulaTwice ∷ FormulaEnd ∷ ProofField ∷ ProofCode
-    ∷ ProofTwice ∷ NumberNotLive ∷ NumbersUsedUp ∷ NotRup ∷ NotTrivialised ∷ NotPassing ∷ [])
-    ≡ 1 ∷ 2 ∷ 3 ∷ 4 ∷ 5 ∷ 6 ∷ 7 ∷ 8 ∷ 9 ∷ 10 ∷ 11 ∷ 12 ∷ 13 ∷ 14 ∷ 15 ∷ []
-reasons_numbered = refl
 
 -- "leave its number unused" (02, §6): a reason that comes later is to have its line here
 pub sixteen_unused : (r : Reason) → number_of r ≢ 16

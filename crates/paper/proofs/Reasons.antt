@@ -9,7 +9,7 @@ use native.Mathlib.Omega.{arith}
 use lib.Dec.{eqb, leb, ltb}
 use lib.ListN.{length, get_or}
 use Rattle.paper.specs.declared.Reason.{Reason}
-use Rattle.paper.specs.declared.Reason.TheVariants.{FormulaField, OverLimit, FormulaCode, FormulaTwice, FormulaEnd, ProofField, ProofCode, ProofTwice, NumberNotLive, NumbersUsedUp}
+use Rattle.paper.specs.declared.Reason.TheVariants.{WorkShort, FileLong, FormulaField, OverLimit, FormulaCode, FormulaTwice, FormulaEnd, ProofField, ProofCode, ProofTwice, NumberNotLive, NumbersUsedUp, NotRup, NotTrivialised, NotPassing}
 use Rattle.paper.specs.declared.Verdict.{Verdict}
 use Rattle.paper.specs.declared.Verdict.TheVariants.{Refuted, Held, Refused}
 use Rattle.paper.specs.Atoms.{Clause, Formula, Witness}
@@ -17,6 +17,12 @@ use Rattle.paper.specs.Files.{File, Read, bad, ◌>>=◌, ◌>>◌, need, two, p
 use Rattle.paper.specs.Refusals.{each, no_two, between, check_clause, read_clauses, read_formula, field_if, read_fields, check_mappings, is_live, check_numbers, read_step}
 use Rattle.paper.specs.Answers.{number_of, verdict_numbers, stops, Judged, not_rup, not_trivialised, sr_lowest, wsr_lowest, wsr_new, Steps, refuted, held, unread, judged, goes_on, Answer, work_short, file_long, formula_bad, proof_judged}
 use Rattle.paper.proofs.Reading.{Reads, reads_bind, reads_seq, reads_each, reads_no_two}
+
+-- the reasons in the order of the paper's table
+pub reasons_numbered : map number_of (WorkShort ∷ FileLong ∷ FormulaField ∷ OverLimit ∷ FormulaCode ∷ FormulaTwice ∷ FormulaEnd ∷ ProofField ∷ ProofCode
+    ∷ ProofTwice ∷ NumberNotLive ∷ NumbersUsedUp ∷ NotRup ∷ NotTrivialised ∷ NotPassing ∷ [])
+    ≡ 1 ∷ 2 ∷ 3 ∷ 4 ∷ 5 ∷ 6 ∷ 7 ∷ 8 ∷ 9 ∷ 10 ∷ 11 ∷ 12 ∷ 13 ∷ 14 ∷ 15 ∷ []
+reasons_numbered = refl
 
 -- what holds of the reason, where there is one
 abbrev Else : {A : Type 0} → (Reason → Type 0) → Read A → Type 0

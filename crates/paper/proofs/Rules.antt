@@ -299,7 +299,7 @@ module _ (f : File) (vars m n at : ℕ) (here : at < length f) where
     unfolding read_clauses need ◌>>=◌ ◌>>◌
     clause_later r p c = rw (leb_within (suc at) (length f) here, need, ◌>>◌, a, ◌>>=◌, b, c)
 
-over_limit : (v m high most : ℕ) → ((leb v high && leb m most) ≡ false) ↔ ((high < v) ⊎ (most < m))
+pub over_limit : (v m high most : ℕ) → ((leb v high && leb m most) ≡ false) ↔ ((high < v) ⊎ (most < m))
 over_limit v m high most = ((λ e. there (leb v high) refl (leb m most) refl e), back)
   where
     there : (a : Bool) → leb v high ≡ a → (b : Bool) → leb m most ≡ b → (a && b) ≡ false → (high < v) ⊎ (most < m)
@@ -311,10 +311,10 @@ over_limit v m high most = ((λ e. there (leb v high) refl (leb m most) refl e),
     back (inl h) = rw (leb_beyond v high h)
     back (inr h) = and_false (leb v high) (leb m most) (leb_beyond m most h)
 
-abbrev OfLimits : File → Reason → ℕ → Type 0
+abbrev pub OfLimits : File → Reason → ℕ → Type 0
 OfLimits f r p = number_of r ≡ 4 → (4095 < two f 3) ⊎ (16383 < two f 5)
 
-reads_formula : (f : File) → Reads (λ _. Unit {0}) (OfLimits f) (read_formula f)
+pub reads_formula : (f : File) → Reads (λ _. Unit {0}) (OfLimits f) (read_formula f)
 unfolding read_formula past
 reads_formula f =
     reads_bind Q _ _ _ _ (reads_field Q FormulaField 0x01 four f 0 (λ z. absurd (omega arith))) λ e w.
@@ -337,12 +337,6 @@ module _ (f : File) (e : Extent) (head : field FormulaField 0x01 four f 0 ≡ ok
       let w = (field_exactly FormulaField 0x01 four f 0 e).0 head in
       let n = eqb_yes e.size 4 w.fits in
       (omega (arith, w.ends, w.starts), omega (arith, w.starts))
-
-  -- 4, "V or m over its limit": exactly there, whatever follows HEAD
-  pub limits_exactly : (read_formula f ≡ bad OverLimit 0) ↔ ((4095 < two f 3) ⊎ (16383 < two f 5))
-  unfolding read_formula need ◌>>=◌ ◌>>◌
-  limits_exactly =
-      ((λ h. subst (Reads (λ _. Unit {0}) (OfLimits f)) h (reads_formula f) refl), λ h. rw (head, ◌>>=◌, (over_limit (two f 3) (two f 5) 4095 16383).1 h))
 
   -- "bytes follow clause m": 7 at the first such byte; a file that ends there is read
   module _ (low : two f 3 ≤ 4095) (few : two f 5 ≤ 16383) (F : Formula) (at : ℕ) (clauses : read_clauses f (two f 3) (two f 5) 1 7 ≡ ok (F, at)) where

@@ -22,7 +22,7 @@ use Rattle.paper.specs.Answers.{verdict_numbers, Outcome, taken, stops, Judged, 
 use Rattle.paper.proofs.Lists.{complement_twice, complement_inj, complement_even, eqb_yes, eqb_no, eqb_same, eqb_other, is_in_yes, is_in_no, map_out, map_in, under_in, under_out, without_out, after_new, after_old}
 use Rattle.paper.proofs.Judging.{trivialises?, trivialises_yes, trivialises_no, judged_once}
 use Rattle.paper.proofs.Answering.{same_read}
-use Rattle.paper.proofs.Soundness.{value_moved, meets_in, meets_out, passes_sound}
+use Rattle.paper.proofs.Soundness.{value_moved, meets_in, meets_out, trivialised_meets}
 use Rattle.paper.proofs.Cases.{F1, pair}
 
 -- 1. Stowages. "A stowage gives each of the variables 1 to V true or false"; "a constant has its own value".
@@ -191,7 +191,7 @@ module _ (s : Witness) (D : Clause) (not_trivial : ¬ (Trivialises s D)) where
 
 pub trivialises_exactly : (s : Witness) (D : Clause) → Trivialises s D ↔ ((I : Stowage) → meets (moved s I) D ≡ true)
 unfolding meets
-trivialises_exactly s D = ((λ t I. passes_sound I [] [] s D (λ n E m. elim m [ ]) refl (trivial t)), λ all. go all (trivialises? s D) refl)
+trivialises_exactly s D = ((λ t I. trivialised_meets I s D t), λ all. go all (trivialises? s D) refl)
   where
     go : ((I : Stowage) → meets (moved s I) D ≡ true) → (b : Bool) → trivialises? s D ≡ b → Trivialises s D
     go all true e = trivialises_yes s D e

@@ -10,8 +10,8 @@ use native.Mathlib.Omega.{arith}
 use native.Mathlib.Decide.{ℕ_discrete}
 use lib.Dec.{eqb}
 use Rattle.paper.specs.Atoms.{complement, ◌∈◌, Clause, Formula, Live, Witness}
-use Rattle.paper.specs.Conditions.{Derived, given, unit, Clash, both, broken, RUP, look, image, Trivialises, to_true, to_complements, under, Passes, trivial, opposed, follows, SR, WSR, without, after}
-use Rattle.paper.specs.Stowages.{Stowage, variable, value, moved, meets, Meets, carried}
+use Rattle.paper.specs.Conditions.{Derived, given, unit, Clash, both, broken, RUP, look, image, Trivialises, to_true, to_complements, under, Passes, trivial, opposed, follows, without, after}
+use Rattle.paper.specs.Stowages.{Stowage, variable, value, moved, meets, Meets}
 use Rattle.paper.specs.Valid.{Codes}
 use Rattle.paper.proofs.Judging.{look_range}
 use Rattle.paper.proofs.Lists.{complement_half, complement_mod, eqb_yes, eqb_no, eqb_same, eqb_other, map_out, under_out, without_out}
@@ -133,7 +133,7 @@ rup_sound I F C r mF = go (meets I C) refl
         r)
 
 -- a trivialised clause meets after the move
-trivialised_meets : (I : Stowage) (s : Witness) (D : Clause) → Trivialises s D → meets (moved s I) D ≡ true
+pub trivialised_meets : (I : Stowage) (s : Witness) (D : Clause) → Trivialises s D → meets (moved s I) D ≡ true
 unfolding value variable
 trivialised_meets I s D (to_true {l} m e) = meets_in (moved s I) m (value_moved s I l ∙ ap (value I) e)
 trivialised_meets I s D (to_complements {l} {k} m n e) = go (value (moved s I) k) refl
@@ -163,27 +163,6 @@ passes_sound I F C s D mF f (follows r) = go (meets_out I (C ++ under s D) (rup_
 
     go : (k : ℕ) × (k ∈ C ++ under s D) × (value I k ≡ true) → meets (moved s I) D ≡ true
     go r = side r.0 r.2 (Memᴰ.append_cases C r.1)
-
--- Theorem 8: a stowage that meets F, moved by the witness where C fails, meets the clauses live after the step
-pub wsr_sound : (I : Stowage) (F : Formula) (C : Clause) (s : Witness) (modulo : List ℕ) (n : ℕ) → WSR F C s modulo → Meets I F
-    → Meets (carried s C I) (after modulo n C F)
-unfolding carried after
-wsr_sound I F C s modulo n w mF k D m = go (meets I C) refl (Memᴰ.append_cases (without modulo F) m)
-  where
-    go : (b : Bool) → meets I C ≡ b → (Live (without modulo F) k D) ⊎ (Live ((n, C) ∷ []) k D) → meets (elim (meets I C) [ true ↦ I | false ↦ moved s I ]) D ≡ true
-    go true e (inl q) = rw e (mF k D (without_out modulo F q).0)
-    go true e (inr q) = rw e (ap (λ (p : ℕ × Clause). meets I p.1) (Memᴰ.eq_of_singleton q) ∙ e)
-    go false e (inl q) = rw e (passes_sound I F C s D mF e (w.old k D (without_out modulo F q).0 (without_out modulo F q).1))
-    go false e (inr q) =
-        rw e (ap (λ (p : ℕ × Clause). meets (moved s I) p.1) (Memᴰ.eq_of_singleton q) ∙ passes_sound I F C s C mF e w.new)
-
--- SR is WSR modulo nothing, with C trivialised
-pub sr_wsr : (F : Formula) (C : Clause) (s : Witness) → SR F C s → WSR F C s []
-sr_wsr F C s r = record { new = trivial r.new; old = λ n D m _. r.old n D m }
-
--- Theorem 5
-pub sr_sound : (I : Stowage) (F : Formula) (C : Clause) (s : Witness) (n : ℕ) → SR F C s → Meets I F → Meets (carried s C I) (after [] n C F)
-sr_sound I F C s n r mF = wsr_sound I F C s [] n (sr_wsr F C s r) mF
 
 -- a RUP step keeps the stowage as it is
 pub rup_step_sound : (I : Stowage) (F : Formula) (C : Clause) (n : ℕ) → RUP F C → Meets I F → Meets I (after [] n C F)
