@@ -2,7 +2,7 @@
 -- Assumes nothing.
 use mathlib.Core.Path.{◌≡◌, sym, ◌∙◌}
 use Rattle.sweep.specs.declared.Propagation.{Propagation}
-use Rattle.sweep.proofs.Once.{state_once}
+use Rattle.sweep.proofs.State.{state_once}
 use Rattle.propagation.proofs.propagate.Reads as propagate
 
 pub propagate_once : (κs : _) (a : _) (r r' : Propagation) (s s' : _) → propagate.Post κs a r s → propagate.Post κs a r' s'

@@ -27,6 +27,8 @@ loop-c-preserved c =
 pub overflow_add-result : goal.overflow_add-result
 overflow_add-result c = let g = c.loop-c.invariant in omega (arith, g.counted, g.place, g.now.proof_short)
 
+-- A step that stops is the answer,
+-- the first and each later one.
 pub returns-in-Stopped : goal.returns-in-Stopped
 returns-in-Stopped c =
     stopped c.loop-c.invariant c.loop-c-test.true (rw c.in-Stopped.is at c.take_step.ensures)

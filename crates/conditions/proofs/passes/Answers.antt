@@ -47,6 +47,8 @@ returns-in-Passes c =
           ∙ both_undone _ pre.0.ready.unset _ _ _ c.assume_clause.ensures _ c.assume_images.ensures.table _ c.unset_clause.ensures;
     }
 
+-- An open clause passes as the propagation says,
+-- also where it shares no variable with the new one.
 pub returns-in-Open : goal.returns-in-Open
 returns-in-Open c =
     let pre = c.requires in

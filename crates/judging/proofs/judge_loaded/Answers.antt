@@ -12,10 +12,12 @@ use Rattle.judging.proofs.judge_loaded.Goals as goal
 pub check_numbers-requires : goal.check_numbers-requires
 check_numbers-requires c = let i = lie _ _ _ c.requires.fields in (i.numbers_within, i.numbers_even)
 
+-- A number that is not live is the answer,
+-- also where the numbers are used up, and whatever the steps behind have wrong.
 pub returns-in-At : goal.returns-in-At
 returns-in-At c =
-    let q = c.check_numbers.ensures c.args.formula.now in
-    record { answer = rw c.stopped.ensures (numbers_stop c.requires (checked_at NumberNotLive _ _ q _ c.in-At.is)); table = refl }
+    let live = c.check_numbers.ensures c.args.formula.now in
+    record { answer = rw c.stopped.ensures (numbers_stop c.requires (checked_at NumberNotLive _ _ live _ c.in-At.is)); table = refl }
 
 pub returns-then-tag-eq20 : goal.returns-then-tag-eq20
 returns-then-tag-eq20 c =

@@ -8,6 +8,8 @@ pub trivialises-requires : goal.trivialises-requires
 trivialises-requires c =
     (c.args.vars, (c.requires.table, (c.requires.inward, c.requires.new.codes)))
 
+-- A clause that is not trivialised is the answer,
+-- also where a clause does not pass.
 pub returns-then-not-trivialises : goal.returns-then-not-trivialises
 returns-then-not-trivialises c =
     let d = c.trivialises.ensures in
