@@ -38,8 +38,7 @@ returns-then-clauses-gt16383 c =
     _ _
     c.pair_at-vars.ensures.0
     c.pair_at-clauses.ensures.0
-    c.if-vars-gt4095.false
-    c.if-clauses-gt16383.true
+    c.if-vars-gt4095.false c.if-clauses-gt16383.true
 
 pub returns-else-clauses-gt16383 : goal.returns-else-clauses-gt16383
 returns-else-clauses-gt16383 c =
@@ -50,8 +49,7 @@ returns-else-clauses-gt16383 c =
     _ _
     c.pair_at-vars.ensures.0
     c.pair_at-clauses.ensures.0
-    c.if-vars-gt4095.false
-    c.if-clauses-gt16383.false
+    c.if-vars-gt4095.false c.if-clauses-gt16383.false
     _
     (found_next _ _ _ (sym c.in-Found.is ∙ e))
 
