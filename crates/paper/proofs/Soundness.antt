@@ -1,4 +1,4 @@
--- Demand 3 for one step: what RUP, SR and WSR preserve.
+-- Demand 3 for one step: what RUP and DELETE preserve, and that a clause which passes is met after the move (`Moves`: SR and WSR).
 -- Assumes nothing.
 use Prim.Native.Nat.{ℕ, zero, suc, ◌+◌, ◌%◌, ◌/◌, ◌*◌, ◌≤◌}
 use mathlib.Core.Path.{◌≡◌, refl, sym, ap, ◌∙◌, ap₂}
