@@ -1,0 +1,2 @@
+-- What is proved of a payload read in turn.
+pub mod First
