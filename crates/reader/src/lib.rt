@@ -40,16 +40,7 @@ pub fn field_at(s: &[u8], c: Cursor) -> FieldRead
 pub fn tag_at(s: &[u8], c: Cursor) -> u8
     ensures { result ≡ get_or s.now c.at 0 }
 {
-    match field_at(s, c) {
-        FieldRead::Whole {
-            tag,
-            extent: _,
-            next: _,
-        } => tag,
-        FieldRead::Cut { tag, size: _ } => tag,
-        FieldRead::Short { tag } => tag,
-        FieldRead::End => 0,
-    }
+    s.get(c.at).copied().unwrap_or(0)
 }
 
 // The field that must stand at a place of a proof, if it does: what `field::expect` says of any file.
