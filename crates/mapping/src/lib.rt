@@ -20,10 +20,8 @@ pub fn unload_witness(w: &[u8], t: &mut [u8])
     requires { (8192 ≤ length t.old) × ((length w.now % 4 ≡ 0) × Fitting (mappings (codes w.now))) }
     ensures { t.new ≡ unloaded t.old (mappings (codes w.now)) }
 {
-    let mut i: usize = 0;
-    while i < w.len() {
-        table::clear_image(t, field::pair_at(w, i));
-        i += 4;
+    for (v, _) in codes::mapped(w) {
+        table::clear_image(t, v);
     }
 }
 
@@ -34,15 +32,12 @@ pub fn load_witness(w: &[u8], t: &mut [u8]) -> Loaded
     ensures place { (i : ℕ) → result ≡ Loaded.Twice i → i < length w.now }
     ensures table { t.new ≡ table_after result t.old (mappings (codes w.now)) }
 {
-    let mut i: usize = 0;
-    while i < w.len() {
-        let v = field::pair_at(w, i);
+    for (k, (v, atom)) in codes::mapped(w).enumerate() {
         if table::is_mapped(t, v) {
             unload_witness(w, t);
-            return Loaded::Twice(i);
+            return Loaded::Twice(4 * k);
         }
-        table::set_image(t, v, field::pair_at(w, i + 2));
-        i += 4;
+        table::set_image(t, v, atom);
     }
     Loaded::Once
 }
