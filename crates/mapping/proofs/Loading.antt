@@ -19,7 +19,6 @@ use Rattle.paper.specs.Refusals.{no_two}
 use Rattle.table.specs.Table.{value_at, mapped_at, set_image}
 use Rattle.table.proofs.Laws.{length_set_image, first_set_image_other, second_set_image_other, mapped_same, mapped_other, value_set_image}
 use Rattle.table.proofs.Kept.{same_table}
-use Rattle.mapping.specs.declared.Loaded.TheVariants.{Once, Twice}
 use Rattle.mapping.specs.Mapping.{variables, Fitting, Bare, loaded, unloaded}
 use Rattle.mapping.proofs.Pairs.{four_each, fits_here, fits_next}
 use Rattle.mapping.proofs.Unloading.{Apart, unload_back, unload_value}
@@ -138,10 +137,3 @@ module _ {w t₀ t : List ℕ} {left : Witness} {k : ℕ} (g : Loading w t₀ t 
     pub loading_end : t ≡ loaded t₀ s
     unfolding loaded
     loading_end = sym (ap (loaded t) end) ∙ g.rest
-
--- the place of a variable that is mapped twice is the pair's, and there is none where each is mapped once
-pub inside : (j i n : ℕ) → Twice j ≡ Twice i → j < n → i < n
-inside j i n e h = let k : j ≡ i = cc in omega arith
-
-pub not_twice : (i n : ℕ) → Once ≡ Twice i → i < n
-not_twice i n e = let z : ◌≡◌ {A = ℕ} 0 1 = cc in absurd (omega arith)

@@ -1,11 +1,11 @@
 -- `mapping::load_witness` meets its contract: the variables passed are those that the table has mapped, each listed once. Assumes nothing.
 use mathlib.Core.Logic.{inl}
-use mathlib.Core.Path.{sym, ◌∙◌}
-use lib.ListN.{length}
+use Prim.Native.Nat.{◌*◌}
+use mathlib.Core.Path.{◌≡◌, sym, ◌∙◌}
 use native.Mathlib.Omega.{arith}
 use Rattle.mapping.specs.Mapping.{said_by, table_after}
 use Rattle.mapping.proofs.Pairs.{fits_here, four_each}
-use Rattle.mapping.proofs.Loading.{loading_start, loading_turn, loading_twice, loading_back, loading_once, loading_end, place_here, inside, not_twice}
+use Rattle.mapping.proofs.Loading.{loading_start, loading_turn, loading_twice, loading_back, loading_once, loading_end, place_here}
 use Rattle.mapping.proofs.load_witness.Goals as goal
 
 pub loop-k-init-derived : goal.loop-k-init-derived
@@ -28,7 +28,7 @@ returns-then-is_mapped c =
     let s = c.in-Some.ensures.steps in
     record {
       said = λ why p. loading_twice n s.0 s.1 (sym c.is_mapped.ensures ∙ c.if-is_mapped.true) why p;
-      place = λ i e. inside _ i (length c.args.w.now) e (place_here n s.0 s.1);
+      place = λ i e. let h = place_here n s.0 s.1 in let q : 4 * c.in-Some.k ≡ i = cc in omega arith;
       table = c.unload_witness.ensures ∙ loading_back n c.requires.0 c.requires.1.1.0 c.requires.1.1.1;
     }
 
@@ -47,6 +47,6 @@ unfolding said_by table_after
 returns c =
     record {
       said = loading_once c.loop-k.invariant c.in-None.ensures.steps.0.0;
-      place = λ i e. not_twice i _ e;
+      place = λ i e. cc;
       table = loading_end c.loop-k.invariant c.in-None.ensures.steps.0.0;
     }
