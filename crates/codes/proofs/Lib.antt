@@ -1,2 +1,3 @@
 -- What is proved of a payload read in turn.
 pub mod First
+pub mod Once

@@ -10,13 +10,15 @@ use lib.ListN.{length, get_or, get_or-eq_default}
 use Rattle.paper.specs.declared.Reason.{Reason}
 use Rattle.paper.specs.declared.Extent.{Extent}
 use Rattle.paper.specs.Files.{File, Read, ok, bad, ◌>>◌, need, two, past, field}
-use Rattle.paper.proofs.Lists.{eqb_yes, eqb_same, eqb_other, leb_yes, leb_within, leb_beyond}
+use Rattle.paper.proofs.Lists.{eqb_yes, leb_yes, leb_within, leb_beyond}
+use Rattle.std.specs.Prelude.{Option, None, Result, Ok, Err}
+use Rattle.std.specs.Option.{ok_or}
 use Rattle.field.specs.declared.Cursor.{Cursor}
 use Rattle.field.specs.declared.FieldRead.{FieldRead}
 use Rattle.field.specs.declared.FieldRead.TheVariants.{Whole, Cut, Short, End}
-use Rattle.field.specs.declared.Expected.{Expected}
-use Rattle.field.specs.declared.Expected.TheVariants.{Found, Wrong}
-use Rattle.field.specs.Field.{extent_at, field_at, judged, expected_of}
+use Rattle.field.specs.declared.Found.{Found}
+use Rattle.field.specs.declared.Fault.{Fault}
+use Rattle.field.specs.Field.{extent_at, field_at, judged, result_of, found_of}
 
 -- the cursor's reading, by the tests that its code makes
 module _ (f : File) (at : ℕ) where
@@ -62,49 +64,33 @@ tag_read f at x t e h = h ∙ ap tag_of e ∙ go (leb (length f) at) (leb (at + 
     go false true false p q r = simp (p, q, r, field_at)
     go false true true p q r = simp (p, q, r, field_at)
 
--- found: the reading finds that extent, and the cursor stands past it
-module _ (e : Extent) (n : Cursor) where
-  pub found_in : (x : Read Extent) → Found e n ≡ expected_of x → x ≡ ok e
-  unfolding expected_of
-  found_in (ok d) q = cc
-  found_in (bad r p) q = let z : ◌≡◌ {A = ℕ} 0 1 = cc in absurd (omega arith)
+-- what the paper's reading found or refused, by the code's answer
+module _ {A : Type 0} where
+  pub ok_in : (a : A) (x : Read A) → Ok a ≡ result_of x → x ≡ ok a
+  unfolding result_of
+  ok_in a (ok d) q = cc
+  ok_in a (bad r p) q = let z : ◌≡◌ {A = ℕ} 0 1 = cc in absurd (omega arith)
 
-  pub found_next : (x : Read Extent) → Found e n ≡ expected_of x → n.at ≡ past e
-  unfolding expected_of
-  found_next (ok d) q =
-      let u : e ≡ d = cc in
-      let v : n ≡ record { at = past d } = cc in
-      ap (λ (c : Cursor). c.at) v ∙ ap past (sym u)
-  found_next (bad r p) q = let z : ◌≡◌ {A = ℕ} 0 1 = cc in absurd (omega arith)
+  pub bad_in : (b : Fault) (x : Read A) → Err b ≡ result_of x → x ≡ bad b.reason b.place
+  unfolding result_of
+  bad_in b (ok d) q = let z : ◌≡◌ {A = ℕ} 0 1 = cc in absurd (omega arith)
+  bad_in b (bad r p) q = let e : b ≡ record { reason = r; place = p } = cc in rw e
 
-module _ (why : Reason) (tag : ℕ) (allowed : ℕ → Bool) (f : File) (at : ℕ) where
-  -- found: the paper's reading finds that extent
-  pub found : (e : Extent) (n : Cursor) → Found e n ≡ expected_of (field why tag allowed f at) → field why tag allowed f at ≡ ok e
-  found e n q = found_in e n (field why tag allowed f at) q
+-- the same of a field: the extent that was found, and the cursor past it
+pub found_in : (d : Found) (x : Read Extent) → Ok d ≡ found_of x → x ≡ ok d.extent
+unfolding found_of
+found_in d (ok e) q = let h : d ≡ record { extent = e; next = record { at = past e } } = cc in rw h
+found_in d (bad r p) q = let z : ◌≡◌ {A = ℕ} 0 1 = cc in absurd (omega arith)
 
-  -- wrong: the paper's reading refuses, at the place of the tag
-  pub wrong : Wrong ≡ expected_of (field why tag allowed f at) → field why tag allowed f at ≡ bad why at
-  unfolding field need ◌>>◌ expected_of
-  wrong q =
-      go (leb (at + 3) (length f)) (eqb (get_or f at 0) tag) (allowed (two f (at + 1))) (leb (at + 3 + two f (at + 1)) (length f)) q
-    where
-      e : Extent
-      e = record { start = at + 3; size = two f (at + 1) }
+pub found_next : (d : Found) (x : Read Extent) → Ok d ≡ found_of x → d.next.at ≡ past d.extent
+unfolding found_of
+found_next d (ok e) q = let h : d ≡ record { extent = e; next = record { at = past e } } = cc in rw h
+found_next d (bad r p) q = let z : ◌≡◌ {A = ℕ} 0 1 = cc in absurd (omega arith)
 
-      read : Bool → Bool → Bool → Bool → Read Extent
-      read a b c d = do
-        need a why at
-        need b why at
-        need c why at
-        need d why at
-        ok e
-
-      go : (a b c d : Bool) → Wrong ≡ expected_of (read a b c d) → read a b c d ≡ bad why at
-      go false b c d q = refl
-      go true false c d q = refl
-      go true true false d q = refl
-      go true true true false q = refl
-      go true true true true q = let z : ◌≡◌ {A = ℕ} 0 1 = cc in absurd (omega arith)
+pub not_found : (b : Fault) (x : Read Extent) → Err b ≡ found_of x → x ≡ bad b.reason b.place
+unfolding found_of
+not_found b (ok e) q = let z : ◌≡◌ {A = ℕ} 0 1 = cc in absurd (omega arith)
+not_found b (bad r p) q = let e : b ≡ record { reason = r; place = p } = cc in rw e
 
 -- the field that stands at a place, when the paper's reading finds it
 pub record Stands (tag : ℕ) (allowed : ℕ → Bool) (f : File) (at : ℕ) (e : Extent) : Type 0 where
@@ -135,9 +121,18 @@ stands why tag allowed f at e q =
     go true true true false t l h q = let z : ◌≡◌ {A = ℕ} 0 1 = cc in absurd (omega arith)
     go true true true true t l h q = yes_stands (cc) t l h
 
+-- what was not read whole is judged wrong
+pub not_whole : (tag : ℕ) (allowed : ℕ → Bool) (x : FieldRead) → ((t : ℕ) (e : Extent) (n : Cursor) → x ≢ Whole t e n) → None ≡ judged tag allowed x
+unfolding judged
+not_whole tag allowed (Whole t e n) h = absurd (h t e n refl)
+not_whole tag allowed (Cut t n) h = refl
+not_whole tag allowed (Short t) h = refl
+not_whole tag allowed End h = refl
+
+-- the judgement of the cursor's reading is what the paper's reading finds
 pub judged_right : (why : Reason) (tag : ℕ) (allowed : ℕ → Bool) (f : File) (at : ℕ)
-    → judged tag allowed (field_at f at) ≡ expected_of (field why tag allowed f at)
-unfolding judged field_at extent_at field need ◌>>◌ expected_of
+    → ok_or (judged tag allowed (field_at f at)) (record { reason = why; place = at }) ≡ found_of (field why tag allowed f at)
+unfolding judged field_at extent_at field need ◌>>◌ found_of
 judged_right why tag allowed f at =
     go
     (leb (length f) at)
@@ -152,7 +147,8 @@ judged_right why tag allowed f at =
     refl
   where
     go : (a b c d e : Bool) → leb (length f) at ≡ a → leb (at + 3) (length f) ≡ b → eqb (get_or f at 0) tag ≡ c → allowed (two f (at + 1)) ≡ d
-        → leb (at + 3 + two f (at + 1)) (length f) ≡ e → judged tag allowed (field_at f at) ≡ expected_of (field why tag allowed f at)
+        → leb (at + 3 + two f (at + 1)) (length f) ≡ e
+        → ok_or (judged tag allowed (field_at f at)) (record { reason = why; place = at }) ≡ found_of (field why tag allowed f at)
     go true b c d e p q r s t =
         let h : length f ≤ at = leb_yes _ _ p in
         simp (p, leb_beyond (at + 3) (length f) (omega arith), field_at, judged)
@@ -164,24 +160,8 @@ judged_right why tag allowed f at =
     go false true true true false p q r s t = simp (p, q, r, s, t, field_at, judged)
     go false true true true true p q r s t = simp (p, q, r, s, t, field_at, judged)
 
--- the judgement, by the case that the reading is
-pub by_case : (tag : ℕ) (allowed : ℕ → Bool) (x y : FieldRead) (r : Expected) → x ≡ y → r ≡ judged tag allowed y → r ≡ judged tag allowed x
-by_case tag allowed x y r p h = h ∙ ap (judged tag allowed) (sym p)
-
--- the answer, by what was read
-pub by_reading : (tag : ℕ) (allowed : ℕ → Bool) (f : File) (at : ℕ) (x : FieldRead) (r : Expected) → x ≡ field_at f at → r ≡ judged tag allowed x
-    → (why : Reason) → r ≡ expected_of (field why tag allowed f at)
-by_reading tag allowed f at x r p h why = h ∙ ap (judged tag allowed) p ∙ judged_right why tag allowed f at
-
-module _ (tag : ℕ) (allowed : ℕ → Bool) (t : ℕ) (e : Extent) (next : Cursor) where
-  pub other_tag : t ≢ tag → Wrong ≡ judged tag allowed (Whole t e next)
-  unfolding judged
-  other_tag ne = rw (eqb_other t tag ne, judged)
-
-  pub right_length : (b : Bool) → t ≡ tag → b ≡ allowed e.size → b ≡ true → Found e next ≡ judged tag allowed (Whole t e next)
-  unfolding judged
-  right_length b same q g = rw (eqb_same t tag same, judged) (rw (sym q ∙ g))
-
-  pub wrong_length : (b : Bool) → t ≡ tag → b ≡ allowed e.size → b ≡ false → Wrong ≡ judged tag allowed (Whole t e next)
-  unfolding judged
-  wrong_length b same q g = rw (eqb_same t tag same, judged) (rw (sym q ∙ g))
+-- the answer, by what was read and what was judged of it
+pub by_reading : (why : Reason) (tag : ℕ) (allowed : ℕ → Bool) (f : File) (at : ℕ) (x : FieldRead) (r : Option Found) (z : Result Found Fault)
+    → x ≡ field_at f at → r ≡ judged tag allowed x → z ≡ ok_or r (record { reason = why; place = at }) → z ≡ found_of (field why tag allowed f at)
+by_reading why tag allowed f at x r z p h e =
+    e ∙ ap (λ (o : Option Found). ok_or o (record { reason = why; place = at })) (h ∙ ap (judged tag allowed) p) ∙ judged_right why tag allowed f at

@@ -1,13 +1,13 @@
 -- What reading a field at a place finds, and when that is the field that must stand there.
-use Rattle.std.specs.Prelude.{ℕ, ◌+◌, Bool, true, false, eqb, leb, length, get_or}
+use Rattle.std.specs.Prelude.{ℕ, ◌+◌, Bool, true, false, eqb, leb, length, get_or, Option, Some, None, Result, Ok, Err}
 use Rattle.paper.specs.declared.Extent.{Extent}
 use Rattle.paper.specs.Files.{File, Read, ok, bad, two, past, four, even, fours}
 use Rattle.field.specs.declared.FieldRead.{FieldRead}
 use Rattle.field.specs.declared.FieldRead.TheVariants.{Whole, Cut, Short, End}
 use Rattle.field.specs.declared.Length.{Length}
 use Rattle.field.specs.declared.Length.TheVariants.{Four, Even, Fours}
-use Rattle.field.specs.declared.Expected.{Expected}
-use Rattle.field.specs.declared.Expected.TheVariants.{Found, Wrong}
+use Rattle.field.specs.declared.Found.{Found}
+use Rattle.field.specs.declared.Fault.{Fault}
 
 -- the payload of the field whose tag is at a place
 unfoldable pub extent_at : File → ℕ → Extent
@@ -34,13 +34,19 @@ allowed_by Even = even
 allowed_by Fours = fours
 
 -- what a reading says of the field that must stand there
-unfoldable pub judged : ℕ → (ℕ → Bool) → FieldRead → Expected
-judged tag allowed (Whole t e next) = elim (eqb t tag) [ true ↦ elim (allowed e.size) [ true ↦ Found e next | false ↦ Wrong ] | false ↦ Wrong ]
-judged tag allowed (Cut t n) = Wrong
-judged tag allowed (Short t) = Wrong
-judged tag allowed End = Wrong
+unfoldable pub judged : ℕ → (ℕ → Bool) → FieldRead → Option Found
+judged tag allowed (Whole t e next) =
+    elim (eqb t tag) [ true ↦ elim (allowed e.size) [ true ↦ Some (record { extent = e; next = next }) | false ↦ None ] | false ↦ None ]
+judged tag allowed (Cut t n) = None
+judged tag allowed (Short t) = None
+judged tag allowed End = None
 
--- what the paper's reading of a field finds, and the cursor past it, but for the reason and its place
-unfoldable pub expected_of : Read Extent → Expected
-expected_of (ok e) = Found e (record { at = past e })
-expected_of (bad r p) = Wrong
+-- what the paper's reading finds, as the code's answer
+unfoldable pub result_of : {A : Type 0} → Read A → Result A Fault
+result_of (ok a) = Ok a
+result_of (bad r p) = Err (record { reason = r; place = p })
+
+-- a field, and the cursor past it
+unfoldable pub found_of : Read Extent → Result Found Fault
+found_of (ok e) = Ok (record { extent = e; next = record { at = past e } })
+found_of (bad r p) = Err (record { reason = r; place = p })

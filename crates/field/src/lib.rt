@@ -2,25 +2,26 @@
 // The reading place is a cursor by value; its method reads one field and hands back the next cursor.
 #![tactic(auto)]
 
-ghost use Rattle.std.specs.Prelude.{◌≡◌, ◌+◌, ◌<◌, length};
-ghost use Rattle.paper.specs.declared.Reason.{Reason};
-ghost use Rattle.paper.specs.Files.{two, field};
-ghost use Rattle.field.specs.Field.{field_at, allowed_by, judged, expected_of};
+ghost use Rattle.std.specs.Prelude.{◌≡◌, ◌+◌, ◌<◌, ◌≤◌, length};
+ghost use Rattle.paper.specs.Files.{two, payload, field};
+ghost use Rattle.field.specs.Field.{field_at, allowed_by, judged, found_of};
 
-use paper::Extent;
-
-fn wide(x: u8) -> usize
-    ensures { (result ≡ x) × (result < 256) }
-{
-    x as usize
-}
+use paper::{Extent, Reason};
 
 // The two bytes at a place, high byte first.
 pub fn pair_at(s: &[u8], at: usize) -> usize
     requires { at + 1 < length s.now }
     ensures { (result ≡ two s.now at) × (result < 65536) }
 {
-    wide(s[at]) * 256 + wide(s[at + 1])
+    usize::from(s[at]) * 256 + usize::from(s[at + 1])
+}
+
+// The payload of a field.
+pub fn payload(s: &[u8], e: Extent) -> &[u8]
+    requires { e.start + e.size ≤ length s.now }
+    ensures { result.now ≡ payload s.now e }
+{
+    &s[e.start..e.start + e.size]
 }
 
 #[derive(Clone, Copy)]
@@ -93,42 +94,47 @@ pub fn allowed(l: Length, n: usize) -> bool
     }
 }
 
-// The field that must stand at a place, if it does, and the cursor past it.
+// A field that stands where it must, and the cursor past it.
 #[derive(Clone, Copy)]
-pub enum Expected {
-    Found { extent: Extent, next: Cursor },
-    Wrong,
+pub struct Found {
+    pub extent: Extent,
+    pub next: Cursor,
 }
 
 // What a reading says of the field that must stand there.
-pub fn judge(read: FieldRead, tag: u8, l: Length) -> Expected
+pub fn judge(read: FieldRead, tag: u8, l: Length) -> Option<Found>
     ensures { result ≡ judged tag (allowed_by l) read }
 {
-    match read {
-        FieldRead::Whole {
-            tag: t,
-            extent,
-            next,
-        } => {
-            if t != tag {
-                return Expected::Wrong;
-            }
-            let size = extent.size;
-            if allowed(l, size) {
-                Expected::Found { extent, next }
-            } else {
-                Expected::Wrong
-            }
-        }
-        FieldRead::Cut { tag: _, size: _ } => Expected::Wrong,
-        FieldRead::Short { tag: _ } => Expected::Wrong,
-        FieldRead::End => Expected::Wrong,
+    let FieldRead::Whole {
+        tag: t,
+        extent,
+        next,
+    } = read
+    else {
+        return None;
+    };
+    if t != tag {
+        return None;
     }
+    if !allowed(l, extent.size) {
+        return None;
+    }
+    Some(Found { extent, next })
 }
 
-pub fn expect(s: &[u8], c: Cursor, tag: u8, l: Length) -> Expected
-    ensures { (why : Reason) → result ≡ expected_of (field why tag (allowed_by l) s.now c.at) }
+// What is wrong with a file, and where.
+#[derive(Clone, Copy)]
+pub struct Fault {
+    pub reason: Reason,
+    pub place: usize,
+}
+
+// The field that must stand at a place; or the fault, at that place.
+pub fn expect(s: &[u8], c: Cursor, why: Reason, tag: u8, l: Length) -> Result<Found, Fault>
+    ensures { result ≡ found_of (field why tag (allowed_by l) s.now c.at) }
 {
-    let read = c.field(s);
-    judge(read, tag, l)
+    judge(c.field(s), tag, l).ok_or(Fault {
+        reason: why,
+        place: c.at,
+    })
 }

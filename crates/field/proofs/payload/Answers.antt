@@ -1,0 +1,9 @@
+-- `payload` is the part of the file that an extent tells.
+use mathlib.Core.Path.{sym}
+use Rattle.paper.specs.Files.{past}
+use Rattle.paper.proofs.Scan.{payload_part}
+use Rattle.field.proofs.payload.Goals as goal
+
+pub returns : goal.returns
+unfolding past
+returns c = sym (payload_part c.args.s.now c.args.e)
