@@ -2,7 +2,7 @@
 #![tactic(auto)]
 
 ghost use Rattle.std.specs.Prelude.{◌≡◌};
-ghost use Rattle.std.specs.Iterator.{YieldsFirst, item_count};
+ghost use Rattle.std.specs.Iterator.{YieldsFirst, YieldsLast, item_count};
 ghost use Rattle.paper.specs.Files.{codes, mappings};
 
 // What is left of a payload: codes, or clause numbers.
@@ -25,6 +25,22 @@ impl<'a> Iterator for Codes<'a> {
         }
         self.bytes = &bytes[2..];
         Some(field::pair_at(bytes, 0))
+    }
+}
+
+// From the back the byte behind the last code, if there is one, is passed over.
+impl<'a> DoubleEndedIterator for Codes<'a> {
+    ghost next_back_gives = { YieldsLast (λ s. codes s.bytes.now) };
+
+    fn next_back(&mut self) -> Option<usize> {
+        let bytes = self.bytes;
+        let count = bytes.len() / 2;
+        if count == 0 {
+            return None;
+        }
+        let last = 2 * (count - 1);
+        self.bytes = &bytes[..last];
+        Some(field::pair_at(bytes, last))
     }
 }
 

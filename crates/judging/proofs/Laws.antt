@@ -36,10 +36,9 @@ use Rattle.clauses.specs.Check as clauses
 use Rattle.clauses.specs.declared.ClauseCheck.{ClauseCheck}
 use Rattle.clauses.specs.declared.ClauseCheck.TheVariants as check
 use Rattle.steps.specs.Steps.{removed, Below}
-use Rattle.steps.proofs.Part.{no_codes}
 use Rattle.steps.proofs.Fields.{lie}
 use Rattle.steps.proofs.Numbers.{removed_length, listed_used, after_removing, after_adding}
-use Rattle.steps.proofs.Step.{clause_of, witness_of, numbers_of, fields_refuse, clause_refuses, mappings_refuse, twice_refuses, numbers_refuse, used_up, new_read, delete_read, delete_tag}
+use Rattle.steps.proofs.Step.{no_codes, clause_of, witness_of, numbers_of, fields_refuse, clause_refuses, mappings_refuse, twice_refuses, numbers_refuse, used_up, new_read, delete_read, delete_tag}
 use Rattle.loading.proofs.Trivial.{images_inward}
 use Rattle.judging.specs.declared.Judgement.{Judgement}
 use Rattle.judging.specs.declared.Judgement.TheVariants.{Passed, Stopped}

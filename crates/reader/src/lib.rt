@@ -3,11 +3,12 @@
 #![tactic(auto)]
 
 ghost use Rattle.std.specs.Prelude.{◌≡◌, get_or};
-ghost use Rattle.paper.specs.declared.Reason.{Reason};
+ghost use Rattle.paper.specs.declared.Reason.TheVariants.{ProofField};
 ghost use Rattle.paper.specs.Files.{field};
-ghost use Rattle.field.specs.Field.{field_at, allowed_by, expected_of};
+ghost use Rattle.field.specs.Field.{field_at, allowed_by, found_of};
 
-use field::{Cursor, Expected, FieldRead, Length};
+use field::{Cursor, Fault, FieldRead, Found, Length};
+use paper::Reason;
 
 #[derive(Clone, Copy)]
 pub struct ProofReader<'a> {
@@ -40,22 +41,15 @@ pub fn field_at(s: &[u8], c: Cursor) -> FieldRead
 pub fn tag_at(s: &[u8], c: Cursor) -> u8
     ensures { result ≡ get_or s.now c.at 0 }
 {
-    match field_at(s, c) {
-        FieldRead::Whole {
-            tag,
-            extent: _,
-            next: _,
-        } => tag,
-        FieldRead::Cut { tag, size: _ } => tag,
-        FieldRead::Short { tag } => tag,
-        FieldRead::End => 0,
-    }
+    s.get(c.at).copied().unwrap_or(0)
 }
 
-// The field that must stand at a place of a proof, if it does: what `field::expect` says of any file.
-pub fn expect(s: &[u8], c: Cursor, tag: u8, l: Length) -> Expected
-    ensures { (why : Reason) → result ≡ expected_of (field why tag (allowed_by l) s.now c.at) }
+// The field that must stand at a place of a proof; or the fault, at that place: what `field::expect` says of any file.
+pub fn expect(s: &[u8], c: Cursor, tag: u8, l: Length) -> Result<Found, Fault>
+    ensures { result ≡ found_of (field ProofField tag (allowed_by l) s.now c.at) }
 {
-    let read = field_at(s, c);
-    field::judge(read, tag, l)
+    field::judge(field_at(s, c), tag, l).ok_or(Fault {
+        reason: Reason::ProofField,
+        place: c.at,
+    })
 }

@@ -8,6 +8,7 @@ use native.Mathlib.Omega.{arith}
 use lib.ListN.{get_or}
 use Rattle.paper.specs.declared.Reason.{Reason}
 use Rattle.paper.specs.declared.Reason.TheVariants.{ProofCode, ProofTwice, NumbersUsedUp}
+use Rattle.paper.specs.declared.Extent.{Extent}
 use Rattle.paper.specs.declared.Fields.{Fields}
 use Rattle.paper.specs.Atoms.{Clause, Formula, Witness}
 use Rattle.paper.specs.Files.{File, Read, ok, bad, ◌>>=◌, ◌>>◌, need, payload, codes, mappings, delete_step}
@@ -26,6 +27,11 @@ module _ (why : Reason) (m : Read (Unit {0})) (r : Checked) (q : m ≡ checked_b
   pub checked_at : (p : ℕ) → r ≡ At p → m ≡ bad why p
   unfolding checked_by
   checked_at p e = q ∙ ap (checked_by why) e
+
+-- a field that the step does not have holds no code and no mapping
+pub no_codes : (f : File) (x : Extent) → x.size ≡ 0 → codes (payload f x) ≡ []
+unfolding payload codes
+no_codes f x e = rw e
 
 -- the new clause, the witness and the numbers of the fields of a step
 abbrev pub clause_of : File → Fields → Clause

@@ -23,10 +23,7 @@ pub enum FieldsRead {
 fn within(low: u8, high: u8, x: u8) -> bool
     ensures { result ≡ between low high x }
 {
-    if x < low {
-        return false;
-    }
-    x <= high
+    (low..=high).contains(&x)
 }
 
 // A field that stands at a place only if the step's tag asks for it; else nothing stands there.
@@ -93,26 +90,29 @@ pub enum Checked {
     At(usize),
 }
 
+// The payload of a field.
+fn part(s: &[u8], e: Extent) -> &[u8]
+    requires { e.start + e.size ≤ length s.now }
+    ensures { result.now ≡ payload s.now e }
+{
+    let start = e.start;
+    let end = start + e.size;
+    &s[start..end]
+}
+
 // Reason 9 over the payload of a WITNESS: a variable outside 1 to V, an atom outside 0 to 2V+1.
 pub fn check_mappings(proof: &[u8], e: Extent, vars: usize) -> Checked
     requires { (e.start + e.size ≤ length proof.now) × ((e.size % 4 ≡ 0) × (vars ≤ 4095)) }
     ensures { check_mappings vars e.start (mappings (codes (payload proof.now e))) ≡ checked_by ProofCode result }
 {
-    let end = e.start + e.size;
-    let mut i = e.start;
-    while i < end {
-        let v = field::pair_at(proof, i);
-        if v < 1 {
-            return Checked::At(i);
+    for (k, (v, atom)) in codes::mapped(part(proof, e)).enumerate() {
+        let place = e.start + 4 * k;
+        if !(1..=vars).contains(&v) {
+            return Checked::At(place);
         }
-        if vars < v {
-            return Checked::At(i);
+        if 2 * vars + 1 < atom {
+            return Checked::At(place + 2);
         }
-        let atom = i + 2;
-        if 2 * vars + 1 < field::pair_at(proof, atom) {
-            return Checked::At(atom);
-        }
-        i += 4;
     }
     Checked::Fine
 }
@@ -122,22 +122,12 @@ pub fn check_numbers(proof: &[u8], e: Extent, words: &[u32]) -> Checked
     requires { (e.start + e.size ≤ length proof.now) × (e.size % 2 ≡ 0) }
     ensures { (f : File) → check_numbers (live f proof.now words.now) 0 e.start (codes (payload proof.now e)) ≡ checked_by NumberNotLive result }
 {
-    let end = e.start + e.size;
-    let mut i = e.start;
     let mut last = 0;
-    while i < end {
-        let n = field::pair_at(proof, i);
-        if n <= last {
-            return Checked::At(i);
-        }
-        if words.len() <= n {
-            return Checked::At(i);
-        }
-        if words[n] < lookup::LIVE {
-            return Checked::At(i);
+    for (k, n) in codes::of(part(proof, e)).enumerate() {
+        if n <= last || words.len() <= n || words[n] < lookup::LIVE {
+            return Checked::At(e.start + 2 * k);
         }
         last = n;
-        i += 2;
     }
     Checked::Fine
 }
@@ -147,10 +137,7 @@ pub fn remove_numbers(proof: &[u8], e: Extent, words: &mut [u32])
     requires { (e.start + e.size ≤ length proof.now) × ((e.size % 2 ≡ 0) × ((length words.old ≤ 65536) × Below (length words.old) (codes (payload proof.now e)))) }
     ensures { words.new ≡ removed words.old (codes (payload proof.now e)) }
 {
-    let start = e.start;
-    let mut at = start + e.size;
-    while start < at {
-        at -= 2;
-        lookup::remove(words, field::pair_at(proof, at));
+    for n in codes::of(part(proof, e)).rev() {
+        lookup::remove(words, n);
     }
 }

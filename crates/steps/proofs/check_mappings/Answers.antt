@@ -1,33 +1,47 @@
 -- `check_mappings` refuses what the paper refuses. The invariant: the check of the mappings left decides the check of all.
-use Prim.Native.Nat.{◌+◌, ◌<◌}
-use mathlib.Core.Path.{sym, ◌∙◌}
+use Prim.Native.Nat.{◌+◌, ◌*◌}
+use mathlib.Core.Path.{◌≡◌, refl, sym, ap, ◌∙◌}
 use native.Mathlib.Omega.{arith}
-use Rattle.steps.proofs.Mappings.{variable_low, variable_high, atom_high, atom_fine, all_fine, decided}
+use lib.ListN.{length}
+use Rattle.std.proofs.Common.{rules}
+use Rattle.paper.specs.Files.{payload}
+use Rattle.paper.specs.Refusals.{between, check_mappings}
+use Rattle.steps.specs.Steps.{checked_by}
+use Rattle.steps.proofs.Mappings.{variable_refused, atom_refused, mapping_fine, room_mappings}
 use Rattle.steps.proofs.check_mappings.Goals as goal
+use Rattle.steps.proofs.check_mappings.Goals.{After-contains}
 
-pub returns-then-v-lt1 : goal.returns-then-v-lt1
-returns-then-v-lt1 c =
-    let whole : c.loop-i.i + 3 < c.args.e.start + c.args.e.size = omega (arith, c.loop-i.invariant.1, c.requires.1.0) in
-    decided _ _ _ _ _ c.loop-i.invariant.2 (variable_low _ _ _ _ whole c.requires.0 _ c.pair_at-v.ensures.0 c.if-v-lt1.true)
+-- the test of the range is the paper's
+range : (c : After-contains) → c.contains.result ≡ between 1 c.args.vars c.in-Some.v
+unfolding between
+range c = search rules
 
-pub returns-then-vars-v : goal.returns-then-vars-v
-returns-then-vars-v c =
-    let whole : c.loop-i.i + 3 < c.args.e.start + c.args.e.size = omega (arith, c.loop-i.invariant.1, c.requires.1.0) in
-    decided _ _ _ _ _ c.loop-i.invariant.2
-    (variable_high _ _ _ _ whole c.requires.0 _ c.pair_at-v.ensures.0 c.if-v-lt1.false c.if-vars-v.true)
+pub loop-k-init : goal.loop-k-init
+loop-k-init c =
+    let z : c.into_iter-k-iterator.result.count ≡ 0 = cc in
+    let b : c.into_iter-k-iterator.result.iter.bytes.now ≡ payload c.args.proof.now c.args.e = cc in
+    let e : c.args.e.start + 4 * c.into_iter-k-iterator.result.count ≡ c.args.e.start = omega arith in
+    (rw b (omega (arith, room_mappings _ _ c.requires.0)), rw (e, b) refl)
 
-pub returns-then-vars-pair_at : goal.returns-then-vars-pair_at
-returns-then-vars-pair_at c =
-    let whole : c.loop-i.i + 3 < c.args.e.start + c.args.e.size = omega (arith, c.loop-i.invariant.1, c.requires.1.0) in
-    decided _ _ _ _ _ c.loop-i.invariant.2
-    (atom_high _ _ _ _ whole c.requires.0 _ c.pair_at-v.ensures.0 c.if-v-lt1.false c.if-vars-v.false _ c.pair_at.ensures.0 c.if-vars-pair_at.true)
+pub returns-then-not-contains : goal.returns-then-not-contains
+unfolding checked_by
+returns-then-not-contains c =
+    let s = c.in-Some.ensures.steps in
+    rw s.1 (sym c.loop-k.invariant.1 ∙ variable_refused _ _ _ _ s.0 (sym (range (goal.at.returns-then-not-contains c).After-contains) ∙ c.if-not-contains.true))
 
-pub loop-i-preserved : goal.loop-i-preserved
-loop-i-preserved c =
-    let whole : c.loop-i.i + 3 < c.args.e.start + c.args.e.size = omega (arith, c.loop-i.invariant.1, c.requires.1.0) in
-    let next = atom_fine _ _ _ _ whole c.requires.0 _ c.pair_at-v.ensures.0 c.if-v-lt1.false c.if-vars-v.false _ c.pair_at.ensures.0 c.if-vars-pair_at.false in
-    (omega arith, omega (arith, c.loop-i.invariant.1), sym next ∙ c.loop-i.invariant.2)
+pub returns-then-vars-atom : goal.returns-then-vars-atom
+unfolding checked_by
+returns-then-vars-atom c =
+    let s = c.in-Some.ensures.steps in
+    rw s.1 (sym c.loop-k.invariant.1 ∙ atom_refused _ _ _ _ s.0 (sym (range (goal.at.returns-then-vars-atom c).After-contains) ∙ c.if-not-contains.false) c.if-vars-atom.true)
+
+pub loop-k-preserved : goal.loop-k-preserved
+loop-k-preserved c =
+    let s = c.in-Some.ensures.steps in
+    let e = mapping_fine c.args.vars (c.args.e.start + 4 * c.loop-k.k-iterator.count) _ _ s.0 (sym (range (goal.at.loop-k-preserved c).After-contains) ∙ c.if-not-contains.false) c.if-vars-atom.false in
+    let q : c.args.e.start + 4 * c.next.new.self.count ≡ c.args.e.start + 4 * c.loop-k.k-iterator.count + 4 = omega (arith, s.2) in
+    (omega (arith, ap length s.0, s.2), rw q (sym e ∙ c.loop-k.invariant.1))
 
 pub returns : goal.returns
-returns c =
-    decided _ _ _ _ _ c.loop-i.invariant.2 (all_fine _ _ _ _ c.loop-i-test.false)
+unfolding checked_by check_mappings
+returns c = sym c.loop-k.invariant.1 ∙ rw c.in-None.ensures.steps.0.0 refl

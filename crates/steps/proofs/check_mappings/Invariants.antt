@@ -1,11 +1,12 @@
 -- `check_mappings` refuses what the paper refuses. The invariant: the check of the mappings left decides the check of all.
-use Prim.Native.Nat.{◌-◌, ◌%◌, ◌≤◌}
+use Prim.Native.Nat.{◌+◌, ◌*◌, ◌≤◌}
 use mathlib.Core.Path.{◌≡◌}
-use Rattle.steps.proofs.Mappings.{left}
+use lib.ListN.{length}
+use Rattle.paper.specs.Files.{payload, codes, mappings}
+use Rattle.paper.specs.Refusals.{check_mappings}
 use Rattle.steps.proofs.check_mappings.Given as goal
 
-abbrev pub invariant-loop-i : goal.invariant-loop-i
-invariant-loop-i l = (l.i ≤ l.end) × ((l.end - l.i) % 4 ≡ 0) × (left l.vars l.proof l.i l.end ≡ left l.vars l.proof l.initial.i l.end)
-
-abbrev pub decreases-loop-i : goal.decreases-loop-i
-decreases-loop-i l = l.end - l.i
+abbrev pub invariant-loop-k : goal.invariant-loop-k
+invariant-loop-k l =
+    (4 * (l.k-iterator.count + length (mappings (codes l.k-iterator.iter.bytes.now))) ≤ l.e.size)
+    × (check_mappings l.vars (l.e.start + 4 * l.k-iterator.count) (mappings (codes l.k-iterator.iter.bytes.now)) ≡ check_mappings l.vars l.e.start (mappings (codes (payload l.proof l.e))))

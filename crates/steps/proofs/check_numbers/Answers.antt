@@ -1,33 +1,41 @@
 -- `check_numbers` refuses what the paper refuses. The invariant: the check of the numbers left decides the check of all.
-use Prim.Native.Nat.{◌+◌, ◌≤◌, ◌<◌}
-use mathlib.Core.Path.{sym, ◌∙◌}
+use Prim.Native.Nat.{◌+◌, ◌*◌}
+use mathlib.Core.Path.{◌≡◌, refl, sym, ap, ◌∙◌}
 use native.Mathlib.Omega.{arith}
-use Rattle.steps.proofs.Numbers.{not_above, not_live, too_high, number_fine, all_fine, decided}
+use lib.ListN.{length}
+use Rattle.paper.specs.Files.{payload}
+use Rattle.paper.specs.Refusals.{check_numbers}
+use Rattle.steps.specs.Steps.{checked_by}
+use Rattle.steps.proofs.Mappings.{room_codes}
+use Rattle.steps.proofs.Numbers.{not_above, not_live, too_high, number_fine}
 use Rattle.steps.proofs.check_numbers.Goals as goal
+use Rattle.steps.proofs.check_numbers.Goals.{then-n-last-via-then-n-last, then-n-last-via-else-n-last+then-words-n, then-n-last-via-else-n-last+else-words-n+then-words-n-lt-LIVE}
+
+pub loop-k-init : goal.loop-k-init
+loop-k-init c =
+    let z : c.into_iter-k-iterator.result.count ≡ 0 = cc in
+    let b : c.into_iter-k-iterator.result.iter.bytes.now ≡ payload c.args.proof.now c.args.e = cc in
+    let e : c.args.e.start + 2 * c.into_iter-k-iterator.result.count ≡ c.args.e.start = omega arith in
+    (rw b (omega (arith, room_codes _ _ c.requires.0)), λ f. rw (e, b) refl)
 
 pub returns-then-n-last : goal.returns-then-n-last
-returns-then-n-last c =
-    let whole : c.loop-i.i + 1 < c.args.e.start + c.args.e.size = omega (arith, c.loop-i.invariant.1, c.requires.1) in
-    let low : c.pair_at-n.result ≤ c.loop-i.last = omega arith in
-    λ f. decided _ _ _ _ _ _ (c.loop-i.invariant.2 f) (not_above _ _ _ _ _ whole c.requires.0 _ c.pair_at-n.ensures.0 f low)
+unfolding checked_by
+returns-then-n-last c = λ f.
+    let s = c.in-Some.ensures.steps in
+    rw s.1 (sym (c.loop-k.invariant.1 f) ∙ elim c.then-n-last.branch [
+      | then-n-last-via-then-n-last w ↦ not_above _ _ _ _ _ s.0 f w.if-n-last.true
+      | then-n-last-via-else-n-last+then-words-n w ↦ too_high _ _ _ _ _ s.0 f w.if-words-n.true
+      | then-n-last-via-else-n-last+else-words-n+then-words-n-lt-LIVE w ↦ not_live _ _ _ _ _ s.0 f w.if-words-n-lt-LIVE.true
+    ])
 
-pub returns-then-words-n : goal.returns-then-words-n
-returns-then-words-n c =
-    let whole : c.loop-i.i + 1 < c.args.e.start + c.args.e.size = omega (arith, c.loop-i.invariant.1, c.requires.1) in
-    λ f. decided _ _ _ _ _ _ (c.loop-i.invariant.2 f) (too_high _ _ _ _ _ whole c.requires.0 _ c.pair_at-n.ensures.0 f c.if-words-n.true)
-
-pub returns-then-words-n-lt-LIVE : goal.returns-then-words-n-lt-LIVE
-returns-then-words-n-lt-LIVE c =
-    let whole : c.loop-i.i + 1 < c.args.e.start + c.args.e.size = omega (arith, c.loop-i.invariant.1, c.requires.1) in
-    λ f. decided _ _ _ _ _ _ (c.loop-i.invariant.2 f) (not_live _ _ _ _ _ whole c.requires.0 _ c.pair_at-n.ensures.0 f c.if-words-n-lt-LIVE.true)
-
-pub loop-i-preserved : goal.loop-i-preserved
-loop-i-preserved c =
-    let whole : c.loop-i.i + 1 < c.args.e.start + c.args.e.size = omega (arith, c.loop-i.invariant.1, c.requires.1) in (
-      omega arith,
-      omega (arith, c.loop-i.invariant.1),
-      λ f. sym (number_fine _ _ _ _ _ whole c.requires.0 _ c.pair_at-n.ensures.0 f c.if-n-last.false c.if-words-n-lt-LIVE.false) ∙ c.loop-i.invariant.2 f,
+pub loop-k-preserved : goal.loop-k-preserved
+loop-k-preserved c =
+    let s = c.in-Some.ensures.steps in
+    let q : c.args.e.start + 2 * c.next.new.self.count ≡ c.args.e.start + 2 * c.loop-k.k-iterator.count + 2 = omega (arith, s.2) in (
+      omega (arith, ap length s.0, s.2),
+      λ f. rw q (sym (number_fine _ _ _ _ _ s.0 f c.if-n-last.false c.if-words-n-lt-LIVE.false) ∙ c.loop-k.invariant.1 f),
     )
 
 pub returns : goal.returns
-returns c = λ f. decided _ _ _ _ _ _ (c.loop-i.invariant.2 f) (all_fine _ _ _ _ _ c.loop-i-test.false)
+unfolding checked_by check_numbers
+returns c = λ f. sym (c.loop-k.invariant.1 f) ∙ rw c.in-None.ensures.steps.0.0 refl

@@ -1,29 +1,26 @@
--- `remove_numbers` clears the listed numbers, from the last to the first. The invariant: those from the place on are cleared.
-use Prim.Native.Nat.{◌+◌}
-use mathlib.Core.Path.{refl, ◌∙◌}
+-- `remove_numbers` clears the listed numbers, from the last to the first. The invariant: those left are to be cleared of what is here.
+use mathlib.Core.Path.{◌≡◌, refl, sym, ◌∙◌}
 use native.Mathlib.Omega.{arith}
-use Rattle.steps.proofs.Numbers.{removed_none, removed_more, removed_decided, listed_below}
+use Rattle.paper.specs.Files.{payload}
+use Rattle.steps.specs.Steps.{removed}
+use Rattle.steps.proofs.Numbers.{removed_last, below_last, below_front}
 use Rattle.steps.proofs.remove_numbers.Goals as goal
 
-pub loop-at-init : goal.loop-at-init
-loop-at-init c =
-    (omega arith, omega arith, omega (arith, c.requires.1.0), refl, removed_none c.args.proof.now _ (c.args.e.start + c.args.e.size))
+pub loop-n-init : goal.loop-n-init
+loop-n-init c =
+    let b : c.into_iter-n-iterator.result.iter.bytes.now ≡ payload c.args.proof.now c.args.e = cc in
+    rw b (c.requires.1.1.1, refl)
 
 pub remove-requires : goal.remove-requires
 remove-requires c =
-    let v = c.loop-at.invariant in
-    let h = listed_below _ _ c.requires.0 c.requires.1.1.1 _ _ (omega arith) (omega (arith, v.2)) (omega arith) c.pair_at.ensures.0 in
-    (omega (arith, v.3, h), omega (arith, h, c.requires.1.1.0))
+    let h = below_last _ (rw c.in-Some.ensures.steps at c.loop-n.invariant.0) in
+    (omega (arith, h, c.loop-n.auto.words), omega (arith, h, c.requires.1.1.0))
 
-pub loop-at-preserved : goal.loop-at-preserved
-loop-at-preserved c =
-    let v = c.loop-at.invariant in (
-      omega arith,
-      omega arith,
-      omega (arith, v.2),
-      c.words-1.given ∙ v.3,
-      c.remove.ensures ∙ removed_more _ _ _ _ _ (omega arith) (omega arith) c.requires.0 _ c.pair_at.ensures.0 v.4,
-    )
+pub loop-n-preserved : goal.loop-n-preserved
+loop-n-preserved c =
+    let v = rw c.in-Some.ensures.steps at c.loop-n.invariant in
+    (below_front _ _ v.0, rw c.remove.ensures (sym (removed_last _ _ _) ∙ v.1))
 
 pub returns : goal.returns
-returns c = let v = c.loop-at.invariant in removed_decided _ _ _ _ _ (omega arith) v.4
+unfolding removed
+returns c = rw c.in-None.ensures.steps.0 at c.loop-n.invariant.1

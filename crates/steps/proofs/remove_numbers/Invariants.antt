@@ -1,15 +1,11 @@
--- `remove_numbers` clears the listed numbers, from the last to the first. The invariant: those from the place on are cleared.
-use Prim.Native.Nat.{◌-◌, ◌%◌, ◌≤◌}
+-- `remove_numbers` clears the listed numbers, from the last to the first. The invariant: those left are to be cleared of what is here.
 use mathlib.Core.Path.{◌≡◌}
 use lib.ListN.{length}
-use Rattle.paper.specs.Files.{codes}
-use Rattle.steps.specs.Steps.{removed}
-use Rattle.steps.proofs.Part.{upto}
+use Rattle.paper.specs.Files.{payload, codes}
+use Rattle.steps.specs.Steps.{removed, Below}
 use Rattle.steps.proofs.remove_numbers.Given as goal
 
-abbrev pub invariant-loop-at : goal.invariant-loop-at
-invariant-loop-at l =
-    (l.start ≤ l.at) × (l.at ≤ l.initial.at) × ((l.at - l.start) % 2 ≡ 0) × (length l.words ≡ length l.initial.words) × (l.words ≡ removed l.initial.words (codes (upto l.proof l.at l.initial.at)))
-
-abbrev pub decreases-loop-at : goal.decreases-loop-at
-decreases-loop-at l = l.at - l.start
+abbrev pub invariant-loop-n : goal.invariant-loop-n
+invariant-loop-n l =
+    Below (length l.fn.words) (codes l.n-iterator.iter.bytes.now)
+    × (removed l.words (codes l.n-iterator.iter.bytes.now) ≡ removed l.fn.words (codes (payload l.fn.proof l.fn.e)))
