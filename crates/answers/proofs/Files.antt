@@ -64,10 +64,3 @@ cleared n m ws u hn hm ew et =
       table_long = ap length et ∙ length-replicate m 0 ∙ hm;
       table_zero = rw et (replicate_zero m);
     }
-
--- it keeps its length, and is zeroed again
-pub zeros : (n k : ℕ) (l : List ℕ) → k ≡ n → l ≡ replicate k 0 → l ≡ replicate n 0
-zeros n k l h e = e ∙ ap (λ (i : ℕ). replicate i 0) h
-
-pub as_long : (n j k : ℕ) (l : List ℕ) → j ≡ n → k ≡ length l → l ≡ replicate j 0 → k ≡ n
-as_long n j k l h e q = e ∙ ap length q ∙ length-replicate j 0 ∙ h

@@ -80,6 +80,15 @@ fn judge_files<'a>(formula: &'a [u8], proof: &'a [u8], words: &mut [u32], t: &mu
     }
 }
 
+// Zeroes both slices.
+fn clear(words: &mut [u32], t: &mut [u8])
+    ensures words { words.new ≡ replicate (length words.old) 0 }
+    ensures bytes { t.new ≡ replicate (length t.old) 0 }
+{
+    words.fill(0);
+    t.fill(0);
+}
+
 // The answer of a call whose work memory is long enough. Whatever the memory holds, it is zeroed before the work, and again after it.
 pub fn answer<'a>(formula: &'a [u8], proof: &'a [u8], words: &mut [u32], t: &mut [u8]) -> Verdict
     requires { (length words.old ≡ 16384) × (length t.old ≡ 8192) }
@@ -87,10 +96,8 @@ pub fn answer<'a>(formula: &'a [u8], proof: &'a [u8], words: &mut [u32], t: &mut
     ensures words { words.new ≡ replicate 16384 0 }
     ensures bytes { t.new ≡ replicate 8192 0 }
 {
-    memory::zero_words(words);
-    memory::zero_bytes(t);
+    clear(words, t);
     let verdict = judge_files(formula, proof, words, t);
-    memory::zero_words(words);
-    memory::zero_bytes(t);
+    clear(words, t);
     verdict
 }

@@ -2,7 +2,7 @@
 // byte first: words lent, bytes lent, length of the formula, length of the proof; then the formula, then the proof.
 #![tactic(auto)]
 
-ghost use Rattle.std.specs.Prelude.{◌+◌, ◌≤◌, ◌<◌, length, IfOk};
+ghost use Rattle.std.specs.Prelude.{◌+◌, ◌<◌, ◌^◌};
 
 use paper::Verdict;
 use std::io;
@@ -13,85 +13,46 @@ const WORD: u32 = 0xA5A5A5A5;
 
 const BYTE: u8 = 0xA5;
 
-fn wide(b: u8) -> usize
-    ensures { result < 256 }
-{
-    b as usize
+// What a pack's cases are read into, and the work memory that they are lent.
+#[derive(Drop)]
+struct Room {
+    formula: [u8; 1048577],
+    proof: [u8; 1048577],
+    words: [u32; 32768],
+    bytes: [u8; 16384],
 }
 
 // The number of four bytes at a place of the head.
 fn number(head: &[u8; 16], at: usize) -> usize
     requires { at + 3 < 16 }
-    ensures { result < 4294967296 }
+    ensures { result < 2 ^ 32 }
 {
-    wide(head[at]) * 16777216
-        + wide(head[at + 1]) * 65536
-        + wide(head[at + 2]) * 256
-        + wide(head[at + 3])
+    u32::from_be_bytes([head[at], head[at + 1], head[at + 2], head[at + 3]]) as usize
 }
 
-fn fill_words(words: &mut [u32]) {
-    let mut i: usize = 0;
-    while i < words.len() {
-        words[i] = WORD;
-        i += 1;
-    }
-}
-
-fn fill_bytes(bytes: &mut [u8]) {
-    let mut i: usize = 0;
-    while i < bytes.len() {
-        bytes[i] = BYTE;
-        i += 1;
-    }
-}
-
-// Whether the first words are zero, as many as are asked for, and the rest as they were filled.
-fn words_right(words: &[u32], zeros: usize) -> bool {
-    let mut i: usize = 0;
-    while i < words.len() {
-        let want = if i < zeros { 0 } else { WORD };
-        if words[i] != want {
-            return false;
-        }
-        i += 1;
-    }
-    true
-}
-
-fn bytes_right(bytes: &[u8], zeros: usize) -> bool {
-    let mut i: usize = 0;
-    while i < bytes.len() {
-        let want = if i < zeros { 0 } else { BYTE };
-        if bytes[i] != want {
-            return false;
-        }
-        i += 1;
-    }
-    true
+// Whether the first places hold zero, as many as are asked for, and the rest what they were filled with.
+fn zeroed<T: PartialEq + Drop>(memory: &[T], zeros: usize, zero: T, filled: T) -> bool {
+    memory.iter().take(zeros).all(|x| *x == zero) && memory.iter().skip(zeros).all(|x| *x == filled)
 }
 
 // Whether the work memory is left as the paper says.
 fn memory_right(v: Verdict, words: &[u32], bytes: &[u8]) -> bool {
-    if paper::as_numbers(v).reason == 1 {
-        words_right(words, 0) && bytes_right(bytes, 0)
+    let (w, b) = if paper::as_numbers(v).reason == 1 {
+        (0, 0)
     } else {
-        words_right(words, 16384) && bytes_right(bytes, 8192)
-    }
+        (16384, 8192)
+    };
+    zeroed(words, w, 0, WORD) && zeroed(bytes, b, 0, BYTE)
 }
 
 // Prints the line of a verdict, with a word more where the work memory is not left as the paper says.
 fn tell(rt: &HostRuntime, v: Verdict, right: bool) -> io::Result<()> {
     let printed = line::line_of(v);
-    let text = printed.bytes;
-    let size = printed.size;
+    let text = &printed.bytes[..printed.size];
     if right {
-        return rt.stdout().write_all(&text[0..size]);
+        return rt.stdout().write_all(text);
     }
-    if 0 < size {
-        let end = size - 1;
-        rt.stdout().write_all(&text[0..end])?;
-    }
+    rt.stdout().write_all(text.trim_ascii_end())?;
     rt.stdout().write_all(b" memory\n")
 }
 
@@ -103,58 +64,28 @@ fn judge<'a>(
     words: &mut [u32],
     bytes: &mut [u8],
 ) -> io::Result<()> {
-    fill_words(words);
-    fill_bytes(bytes);
+    words.fill(WORD);
+    bytes.fill(BYTE);
     let v = checker::check(formula, proof, words, bytes);
     tell(rt, v, memory_right(v, words, bytes))
 }
 
-// Reads until buf is full or the input ends, and returns how many bytes it put at the start of buf.
-fn read_full(rt: &HostRuntime, buf: &mut [u8]) -> io::Result<usize>
-    ensures { IfOk result (λ n. n ≤ length buf.new) }
-{
-    let mut done: usize = 0;
-    while done < buf.len() {
-        let n = rt.stdin().read(&mut buf[done..])?;
-        if n == 0 {
-            break;
-        }
-        done += n;
-    }
-    Ok(done)
+// Reads until buf is full or the input ends, and answers how many bytes it put at the start of buf.
+fn read_full(rt: &HostRuntime, mut buf: &mut [u8]) -> io::Result<u64> {
+    let size = buf.len() as u64;
+    io::copy(&mut rt.stdin().take(size), &mut buf)
 }
 
-// Reads n bytes to the start of a buffer, and answers whether they were there.
-fn load(rt: &HostRuntime, buf: &mut [u8], n: usize) -> io::Result<bool>
-    requires { n ≤ length buf.old }
-{
-    Ok(read_full(rt, &mut buf[0..n])? == n)
+// Fills a buffer, and answers whether the input had the bytes.
+fn load(rt: &HostRuntime, buf: &mut [u8]) -> io::Result<bool> {
+    let size = buf.len() as u64;
+    Ok(read_full(rt, buf)? == size)
 }
 
-fn least(a: usize, b: usize) -> usize
-    ensures { (result ≤ a) × (result ≤ b) }
-{
-    if a < b { a } else { b }
-}
-
-// Reads n bytes and forgets them.
-fn skip(rt: &HostRuntime, buf: &mut [u8], n: usize) -> io::Result<()> {
-    let mut left = n;
-    while 0 < left {
-        let size = least(left, buf.len());
-        let got = read_full(rt, &mut buf[0..size])?;
-        if got == 0 {
-            return Ok(());
-        }
-        left -= got;
-    }
-    Ok(())
-}
-
-// A case for which the buffers have no room, with n bytes of files.
-fn unfit(rt: &HostRuntime, buf: &mut [u8], n: usize) -> io::Result<bool> {
+// A case for which there is no room, with n bytes of files, which are forgotten.
+fn unfit(rt: &HostRuntime, n: usize) -> io::Result<bool> {
     rt.stdout().write_all(b"unfit\n")?;
-    skip(rt, buf, n)?;
+    io::copy(&mut rt.stdin().take(n as u64), &mut io::sink())?;
     Ok(true)
 }
 
@@ -164,92 +95,45 @@ fn cut_short(rt: &HostRuntime) -> io::Result<bool> {
 }
 
 // Answers a case of which the head is read, and says whether the input had its files.
-fn answer(
-    rt: &HostRuntime,
-    head: &[u8; 16],
-    formula: &mut [u8],
-    proof: &mut [u8],
-    words: &mut [u32],
-    bytes: &mut [u8],
-) -> io::Result<bool> {
-    let w = number(head, 0);
-    let b = number(head, 4);
+fn answer(rt: &HostRuntime, head: &[u8; 16], room: &mut Room) -> io::Result<bool> {
     let n = number(head, 8);
     let k = number(head, 12);
-    if formula.len() < n {
-        return unfit(rt, formula, n + k);
-    }
-    if proof.len() < k {
-        return unfit(rt, formula, n + k);
-    }
-    if words.len() < w {
-        return unfit(rt, formula, n + k);
-    }
-    if bytes.len() < b {
-        return unfit(rt, formula, n + k);
-    }
-    if !load(rt, formula, n)? {
+    let (Some(formula), Some(proof), Some(words), Some(bytes)) = (
+        room.formula.get_mut(..n),
+        room.proof.get_mut(..k),
+        room.words.get_mut(..number(head, 0)),
+        room.bytes.get_mut(..number(head, 4)),
+    ) else {
+        return unfit(rt, n + k);
+    };
+    if !load(rt, formula)? || !load(rt, proof)? {
         return cut_short(rt);
     }
-    if !load(rt, proof, k)? {
-        return cut_short(rt);
-    }
-    judge(
-        rt,
-        &formula[0..n],
-        &proof[0..k],
-        &mut words[0..w],
-        &mut bytes[0..b],
-    )?;
+    judge(rt, formula, proof, words, bytes)?;
     Ok(true)
 }
 
 // Answers one case of the input, and says whether there was one.
-fn turn(
-    rt: &HostRuntime,
-    formula: &mut [u8],
-    proof: &mut [u8],
-    words: &mut [u32],
-    bytes: &mut [u8],
-) -> io::Result<bool> {
+fn turn(rt: &HostRuntime, room: &mut Room) -> io::Result<bool> {
     let mut head = [0u8; 16];
-    let got = read_full(rt, &mut head)?;
-    if got == 0 {
-        return Ok(false);
+    match read_full(rt, &mut head)? {
+        0 => Ok(false),
+        16 => answer(rt, &head, room),
+        _ => cut_short(rt),
     }
-    if got < 16 {
-        return cut_short(rt);
-    }
-    answer(rt, &head, formula, proof, words, bytes)
-}
-
-fn run(
-    rt: &HostRuntime,
-    formula: &mut [u8],
-    proof: &mut [u8],
-    words: &mut [u32],
-    bytes: &mut [u8],
-) -> io::Result<()> {
-    let mut turns = u64::MAX;
-    while turns > 0 && turn(rt, formula, proof, words, bytes)? {
-        turns -= 1;
-    }
-    Ok(())
-}
-
-// The buffers are lent as arrays, which asks no proof of their length: lent as a slice, a repeat of a million is too deep for the prover.
-fn start(
-    rt: &HostRuntime,
-    formula: &mut [u8; 1048577],
-    proof: &mut [u8; 1048577],
-) -> io::Result<()> {
-    let mut words = [0u32; 32768];
-    let mut bytes = [0u8; 16384];
-    run(rt, formula, proof, &mut words, &mut bytes)
 }
 
 fn main(rt: HostRuntime) -> io::Result<()> {
-    let mut formula = [0u8; 1048577];
-    let mut proof = [0u8; 1048577];
-    start(&rt, &mut formula, &mut proof)
+    let mut room = Room {
+        formula: [0; 1048577],
+        proof: [0; 1048577],
+        words: [0; 32768],
+        bytes: [0; 16384],
+    };
+    for _ in 0..u64::MAX {
+        if !turn(&rt, &mut room)? {
+            break;
+        }
+    }
+    Ok(())
 }

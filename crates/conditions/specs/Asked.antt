@@ -1,5 +1,5 @@
 -- What is asked of the table and the live clauses before a question about the new clause, and what the search's answer says.
-use Rattle.std.specs.Prelude.{ℕ, ◌≤◌, Bool, false, List, [], ◌∷◌, eqb, length}
+use Rattle.std.specs.Prelude.{ℕ, ◌≤◌, List, length, Option, Some, None}
 use Rattle.paper.specs.Atoms.{◌∈◌, Clause, Formula, Live, Witness}
 use Rattle.paper.specs.Files.{File}
 use Rattle.paper.specs.Conditions.{Passes, Lowest}
@@ -7,8 +7,6 @@ use Rattle.paper.specs.Valid.{Codes, Apart, Valid}
 use Rattle.lookup.specs.Clause.{ClauseTable}
 use Rattle.lookup.specs.Live.{live}
 use Rattle.loading.specs.Loading.{Ready}
-use Rattle.conditions.specs.declared.Failing.{Failing}
-use Rattle.conditions.specs.declared.Failing.TheVariants.{Nothing, At}
 
 -- live clauses and a new clause C whose codes are in range, none with a variable twice, and a table ready for the variables
 pub record Asked (f p : File) (ws : List ℕ) (C : Clause) (vars : ℕ) (t : List ℕ) : Type 0 where
@@ -20,11 +18,6 @@ pub record Asked (f p : File) (ws : List ℕ) (C : Clause) (vars : ℕ) (t : Lis
   pub apart : Apart C
 
 -- every clause of F but those named in MODULO passes; or n is the lowest of those that do not
-abbrev pub Finds : Formula → Clause → Witness → List ℕ → Failing → Type 0
-Finds F C s modulo Nothing = (n : ℕ) (D : Clause) → Live F n D → ¬ (n ∈ modulo) → Passes F C s D
-Finds F C s modulo (At n) = Lowest F C s modulo n
-
--- the list begins with n
-unfoldable pub first_is : ℕ → List ℕ → Bool
-first_is n [] = false
-first_is n (x ∷ ns) = eqb x n
+abbrev pub Finds : Formula → Clause → Witness → List ℕ → Option ℕ → Type 0
+Finds F C s modulo None = (n : ℕ) (D : Clause) → Live F n D → ¬ (n ∈ modulo) → Passes F C s D
+Finds F C s modulo (Some n) = Lowest F C s modulo n

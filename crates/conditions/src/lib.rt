@@ -2,18 +2,19 @@
 // lent with the witness's images in it and no value, and comes back as it was.
 #![tactic(auto)]
 
-ghost use Rattle.std.specs.Prelude.{◌≡◌, ◌≤◌, length, drop};
+ghost use Rattle.std.specs.Prelude.{◌≡◌};
 ghost use Rattle.paper.specs.Atoms.{Witness};
 ghost use Rattle.paper.specs.Files.{codes};
 ghost use Rattle.paper.specs.Conditions.{RUP, Passes};
 ghost use Rattle.paper.specs.Valid.{Codes, Listed};
 ghost use Rattle.lookup.specs.Live.{live};
 ghost use Rattle.loading.specs.Loading.{Inward, Images, Decides};
-ghost use Rattle.conditions.specs.Asked.{Asked, Finds, first_is};
+ghost use Rattle.conditions.specs.Asked.{Asked, Finds};
 
 use loading::Assumed;
 
 // Whether the clause is RUP over the live clauses.
+#[tactic(auto, using(crate::proofs::Answers::asked_gives))]
 pub fn is_rup<'a>(
     formula: &'a [u8],
     proof: &'a [u8],
@@ -33,6 +34,7 @@ pub fn is_rup<'a>(
 }
 
 // Whether the clause d passes, for the new clause and the witness whose images the table holds.
+#[tactic(auto, using(crate::proofs::Answers::asked_gives))]
 pub fn passes<'a>(
     formula: &'a [u8],
     proof: &'a [u8],
@@ -61,25 +63,8 @@ pub fn passes<'a>(
     }
 }
 
-// Whether the list of numbers goes on with n at a place.
-fn is_next(numbers: &[u8], at: usize, n: usize) -> bool
-    requires { at ≤ length numbers.now }
-    ensures { result ≡ first_is n (codes (drop at numbers.now)) }
-{
-    if numbers.len() - at < 2 {
-        return false;
-    }
-    field::pair_at(numbers, at) == n
-}
-
-// The lowest number of a clause that does not pass, if there is one.
-#[derive(Clone, Copy)]
-pub enum Failing {
-    Nothing,
-    At(usize),
-}
-
-// The numbers are tested as they rise, and MODULO is read along with them.
+// The lowest number of a clause that does not pass, if there is one. The numbers are tested as they rise, and MODULO is read along
+// with them.
 pub fn lowest_failing<'a>(
     formula: &'a [u8],
     proof: &'a [u8],
@@ -88,23 +73,23 @@ pub fn lowest_failing<'a>(
     modulo: &[u8],
     vars: usize,
     t: &mut [u8],
-) -> Failing
+) -> Option<usize>
     requires { Asked formula.now proof.now words.now (codes clause.now) vars t.old × (Inward vars t.old × Listed (live formula.now proof.now words.now) 0 (codes modulo.now)) }
     ensures answer { (s : Witness) → Images t.old s → Finds (live formula.now proof.now words.now) (codes clause.now) s (codes modulo.now) result }
     ensures table { t.new ≡ t.old }
 {
-    let mut n: usize = 0;
-    let mut at: usize = 0;
-    while n < words.len() {
-        if is_next(modulo, at, n) {
-            at += 2;
-        } else if lookup::LIVE <= words[n] {
-            let d = lookup::clause_at(formula, proof, words, n);
-            if !passes(formula, proof, words, clause, d, vars, t) {
-                return Failing::At(n);
-            }
+    let mut named = codes::of(modulo).peekable();
+    for n in 0..words.len() {
+        if named.next_if_eq(&n).is_some() {
+            continue;
         }
-        n += 1;
+        if words[n] < lookup::LIVE {
+            continue;
+        }
+        let d = lookup::clause_at(formula, proof, words, n);
+        if !passes(formula, proof, words, clause, d, vars, t) {
+            return Some(n);
+        }
     }
-    Failing::Nothing
+    None
 }

@@ -1,9 +1,9 @@
 -- The answer of `trivialises`.
 -- Assumes nothing.
 use Prim.Native.Nat.{ℕ, ◌+◌, ◌*◌, ◌≤◌, ◌<◌}
-use mathlib.Core.Path.{◌≡◌, sym}
+use mathlib.Core.Path.{◌≡◌, refl, sym}
 use mathlib.Core.Logic.{◌⊎◌, inl, inr}
-use mathlib.Core.Bool.{true, false, true≢false, false≢true}
+use mathlib.Core.Bool.{Bool, true, false, true≢false, false≢true}
 use mathlib.Core.List.{List, []}
 use native.Mathlib.Omega.{arith}
 use lib.ListN.{length}
@@ -12,6 +12,7 @@ use Rattle.paper.specs.Conditions.{image, Trivialises, under}
 use Rattle.paper.specs.Valid.{Codes}
 use Rattle.paper.proofs.Judging.{Atoms, image_range}
 use Rattle.table.specs.Table.{image_of}
+use Rattle.loading.specs.declared.Assumed.{Assumed}
 use Rattle.loading.specs.declared.Assumed.TheVariants.{Passes, Open}
 use Rattle.loading.specs.Loading.{Storable, imaged, Ready, Inward, Images, Decides}
 use Rattle.loading.proofs.Opposed.{opposes_start, images_pass, images_not_trivial}
@@ -35,19 +36,25 @@ module _ (vars : ℕ) (t : List ℕ) (ready : Ready vars t) (inward : Inward var
         let small = ready.small in
         images l h (omega arith)
 
-    pub trivial_yes : Passes ≡ (imaged t D).answer → Decides true (Trivialises s D)
-    trivial_yes e = record { yes = λ _. go (images_pass vars t long s near inward D codes [] t (opposes_start vars t ready.unset) (sym e)); no = λ q. absurd (true≢false q) }
+    -- b is whether the literals pass by their images alone
+    pub trivial_decided : {r : Assumed} → r ≡ (imaged t D).answer → {b : Bool} → (r ≡ Passes → b ≡ true) → (r ≡ Open → b ≡ false)
+        → Decides b (Trivialises s D)
+    trivial_decided {r = Passes} e p q =
+        rw (p refl)
+        (record {
+          yes = λ _. go (images_pass vars t long s near inward D codes [] t (opposes_start vars t ready.unset) (sym e));
+          no = λ z. absurd (true≢false z);
+        })
       where
         go : (Trivialises s D) ⊎ ((l : ℕ) × (l ∈ under s D) × (complement l ∈ [])) → Trivialises s D
         go (inl p) = p
         go (inr p) = elim p.2 [ ]
-
-    pub trivial_no : Open ≡ (imaged t D).answer → Decides false (Trivialises s D)
-    trivial_no e =
-        record {
-          yes = λ q. absurd (false≢true q);
+    trivial_decided {r = Open} e p q =
+        rw (q refl)
+        (record {
+          yes = λ z. absurd (false≢true z);
           no = λ _. images_not_trivial vars t long s near inward D codes [] t (opposes_start vars t ready.unset) (sym e);
-        }
+        })
 
 -- the images of a witness whose atoms are in range
 pub images_inward : (vars : ℕ) (t : List ℕ) (s : Witness) → vars ≤ 4095 → Images t s → Atoms vars s → Inward vars t

@@ -1,19 +1,15 @@
 -- The loops over a clause's bytes that write to the table: a turn of each, by cases, and what holds from turn to turn.
 -- Assumes nothing.
-use Prim.Native.Nat.{ℕ, suc, ◌+◌, ◌/◌, ◌%◌, ◌≤◌, ◌<◌}
+use Prim.Native.Nat.{ℕ, ◌/◌, ◌<◌}
 use mathlib.Core.Path.{◌≡◌, refl, sym, ap, ◌∙◌}
 use mathlib.Core.Logic.{◌≢◌}
 use mathlib.Core.Bool.{true, false}
-use mathlib.Core.List.Memᴰ
 use mathlib.Core.List.{List, [], ◌∷◌}
 use native.Mathlib.Omega.{arith}
-use lib.ListN.{length, drop}
 use Rattle.paper.specs.Atoms.{complement, Clause}
-use Rattle.paper.specs.Files.{two, codes}
 use Rattle.paper.proofs.Lists.{eqb_same, eqb_other}
-use Rattle.paper.proofs.Scan.{codes_next, codes_end}
+use Rattle.paper.proofs.Scan.{step_now, step_later}
 use Rattle.table.specs.Table.{image_of, set_value}
-use Rattle.table.proofs.Laws.{length_set_value}
 use Rattle.loading.specs.declared.Assumed.{Assumed}
 use Rattle.loading.specs.declared.Assumed.TheVariants.{Passes, Open}
 use Rattle.loading.specs.Loading.{Storable, true_at, make_true, assumed, Outcome, imaged, unset_clause, unset_images}
@@ -67,61 +63,43 @@ module _ (t : List ℕ) (l : ℕ) (D : Clause) where
     unfolding imaged
     imaged_next e = rw (eqb_other (image_of t l) 0 n, eqb_other (image_of t l) 1 m, e, imaged)
 
--- 2. What the loops keep, at the place i of the bytes bs: t₀ is the table at entry, t the table now, and g what the loop computes.
-pub record Going {A : Type 0} (g : List ℕ → Clause → A) (bs t₀ t : List ℕ) (i : ℕ) : Type 0 where
-  pub long : length t ≡ length t₀
-  pub fits : Storable (codes (drop i bs))
-  pub rest : g t₀ (codes bs) ≡ g t (codes (drop i bs))
+-- 2. What the loops keep while `left` is left of the clause C: t₀ is the table at entry, t the table now, and g what the loop computes.
+pub record Going {A : Type 0} (g : List ℕ → Clause → A) (C : Clause) (t₀ t : List ℕ) (left : Clause) : Type 0 where
+  pub fits : Storable left
+  pub rest : g t₀ C ≡ g t left
 
-module _ {A : Type 0} (g : List ℕ → Clause → A) (bs : List ℕ) where
-  pub going_start : (t : List ℕ) → Storable (codes bs) → Going g bs t t 0
-  going_start t fits = record { long = refl; fits = fits; rest = refl }
+-- l is the next literal, and `more` is left after it
+module _ {A : Type 0} {g : List ℕ → Clause → A} {C : Clause} {t₀ t : List ℕ} {left : Clause} (k : Going g C t₀ t left) {l : ℕ} {more : Clause}
+    (step : left ≡ l ∷ more) where
+  pub going_here : l < 8192
+  going_here = step_now l step k.fits
 
-  module _ (t₀ t : List ℕ) (i : ℕ) (k : Going g bs t₀ t i) where
-    pub going_end : length bs ≤ i + 1 → g t₀ (codes bs) ≡ g t []
-    going_end h = k.rest ∙ ap (g t) (codes_end bs i h)
+  pub going_now : g t₀ C ≡ g t (l ∷ more)
+  going_now = k.rest ∙ ap (g t) step
 
-    module _ (h : i + 1 < length bs) where
-      -- the code at the place
-      pub going_here : two bs i < 8192
-      going_here = k.fits (two bs i) (rw (codes_next bs i h) (Memᴰ.head refl))
+  pub going_next : {u : List ℕ} → g t (l ∷ more) ≡ g u more → Going g C t₀ u more
+  going_next q = record { fits = step_later l step k.fits; rest = going_now ∙ q }
 
-      pub going_now : g t₀ (codes bs) ≡ g t (two bs i ∷ codes (drop (i + 2) bs))
-      going_now = k.rest ∙ ap (g t) (codes_next bs i h)
+-- 3. A turn over the images: a is the image of the next literal, as the loop has read it.
+module _ {C : Clause} {t₀ t : List ℕ} {left : Clause} (k : Going imaged C t₀ t left) {l : ℕ} {more : Clause} (step : left ≡ l ∷ more) {a : ℕ}
+    (e : a ≡ image_of t l) where
+  pub image_true : a ≡ 0 → imaged t₀ C ≡ record { answer = Passes; table = t }
+  image_true z = going_now k step ∙ imaged_true t l more (sym e ∙ z)
 
-      pub going_next : (u : List ℕ) → length u ≡ length t → g t (two bs i ∷ codes (drop (i + 2) bs)) ≡ g u (codes (drop (i + 2) bs))
-          → Going g bs t₀ u (i + 2)
-      going_next u e q =
-          record {
-            long = e ∙ k.long;
-            fits = λ l m. k.fits l (rw (codes_next bs i h) (Memᴰ.tail m));
-            rest = going_now ∙ q;
-          }
-
--- 3. A turn over the images: a is the image of the literal at the place, as the loop has read it.
-module _ (bs t₀ t : List ℕ) (i : ℕ) (k : Going imaged bs t₀ t i) (h : i + 1 < length bs) (a : ℕ) (e : a ≡ image_of t (two bs i)) where
-  abbrev more : Clause
-  more = codes (drop (i + 2) bs)
-
-  pub image_true : a ≡ 0 → imaged t₀ (codes bs) ≡ record { answer = Passes; table = t }
-  image_true z = going_now imaged bs t₀ t i k h ∙ imaged_true t (two bs i) more (sym e ∙ z)
-
-  pub image_false : a ≡ 1 → Going imaged bs t₀ t (i + 2)
-  image_false z = going_next imaged bs t₀ t i k h t refl (imaged_false t (two bs i) more (sym e ∙ z))
+  pub image_false : a ≡ 1 → Going imaged C t₀ t more
+  image_false z = going_next k step (imaged_false t l more (sym e ∙ z))
 
   module _ (n : a ≢ 0) (m : a ≢ 1) where
-    pub image_already : true_at t a ≡ true → imaged t₀ (codes bs) ≡ record { answer = Passes; table = t }
-    image_already q =
-        going_now imaged bs t₀ t i k h
-        ∙ imaged_already t (two bs i) more (λ z. n (e ∙ z)) (λ z. m (e ∙ z)) (sym (ap (true_at t) e) ∙ q)
+    pub image_already : true_at t a ≡ true → imaged t₀ C ≡ record { answer = Passes; table = t }
+    image_already q = going_now k step ∙ imaged_already t l more (λ z. n (e ∙ z)) (λ z. m (e ∙ z)) (sym (ap (true_at t) e) ∙ q)
 
-    pub image_next : true_at t a ≡ false → (u : List ℕ) → u ≡ make_true t (complement a) → Going imaged bs t₀ u (i + 2)
-    image_next q u w =
-        going_next imaged bs t₀ t i k h u (ap length w ∙ length_set_value t (complement a / 2) (suc (complement a % 2)))
-        (imaged_next t (two bs i) more (λ z. n (e ∙ z)) (λ z. m (e ∙ z)) (sym (ap (true_at t) e) ∙ q)
+    pub image_next : true_at t a ≡ false → {u : List ℕ} → u ≡ make_true t (complement a) → Going imaged C t₀ u more
+    image_next q w =
+        going_next k step
+        (imaged_next t l more (λ z. n (e ∙ z)) (λ z. m (e ∙ z)) (sym (ap (true_at t) e) ∙ q)
         ∙ ap (λ (x : List ℕ). imaged x more) (sym (w ∙ ap (λ (x : ℕ). make_true t (complement x)) e)))
 
 -- the two halves of what the loop ends with
-pub both_halves : (o : Outcome) {answer : Assumed} {table : List ℕ} → o ≡ record { answer = answer; table = table }
+pub both_halves : {o : Outcome} {answer : Assumed} {table : List ℕ} → o ≡ record { answer = answer; table = table }
     → (answer ≡ o.answer) × (table ≡ o.table)
-both_halves o e = (sym (ap (λ (x : Outcome). x.answer) e), sym (ap (λ (x : Outcome). x.table) e))
+both_halves e = (sym (ap (λ (x : Outcome). x.answer) e), sym (ap (λ (x : Outcome). x.table) e))

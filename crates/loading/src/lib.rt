@@ -14,15 +14,13 @@ pub fn assume_clause(clause: &[u8], t: &mut [u8])
     requires { (8192 ≤ length t.old) × Storable (codes clause.now) }
     ensures { t.new ≡ assumed t.old (codes clause.now) }
 {
-    let mut i: usize = 0;
-    while i + 1 < clause.len() {
-        table::make_true(t, table::complement(field::pair_at(clause, i)));
-        i += 2;
+    for code in codes::of(clause) {
+        table::make_true(t, table::complement(code));
     }
 }
 
 // Whether a clause passes by the images of its literals alone, or is open.
-#[derive(Clone, Copy)]
+#[derive(Clone, Copy, PartialEq, Eq)]
 pub enum Assumed {
     Passes,
     Open,
@@ -34,9 +32,8 @@ pub fn assume_images(clause: &[u8], t: &mut [u8]) -> Assumed
     ensures answer { result ≡ (imaged t.old (codes clause.now)).answer }
     ensures table { t.new ≡ (imaged t.old (codes clause.now)).table }
 {
-    let mut i: usize = 0;
-    while i + 1 < clause.len() {
-        let a = table::image_of(t, field::pair_at(clause, i));
+    for code in codes::of(clause) {
+        let a = table::image_of(t, code);
         if a == 0 {
             return Assumed::Passes;
         }
@@ -46,7 +43,6 @@ pub fn assume_images(clause: &[u8], t: &mut [u8]) -> Assumed
             }
             table::make_true(t, table::complement(a));
         }
-        i += 2;
     }
     Assumed::Open
 }
@@ -56,10 +52,8 @@ pub fn unset_clause(clause: &[u8], t: &mut [u8])
     requires { (8192 ≤ length t.old) × Storable (codes clause.now) }
     ensures { t.new ≡ unset_clause t.old (codes clause.now) }
 {
-    let mut i: usize = 0;
-    while i + 1 < clause.len() {
-        table::set_value(t, field::pair_at(clause, i) / 2, 0);
-        i += 2;
+    for code in codes::of(clause) {
+        table::set_value(t, code / 2, 0);
     }
 }
 
@@ -68,11 +62,9 @@ pub fn unset_images(clause: &[u8], t: &mut [u8])
     requires { (8192 ≤ length t.old) × Storable (codes clause.now) }
     ensures { t.new ≡ unset_images t.old (codes clause.now) }
 {
-    let mut i: usize = 0;
-    while i + 1 < clause.len() {
-        let a = table::image_of(t, field::pair_at(clause, i));
+    for code in codes::of(clause) {
+        let a = table::image_of(t, code);
         table::set_value(t, a / 2, 0);
-        i += 2;
     }
 }
 
@@ -84,8 +76,5 @@ pub fn trivialises(clause: &[u8], t: &mut [u8]) -> bool
 {
     let r = assume_images(clause, t);
     unset_images(clause, t);
-    match r {
-        Assumed::Passes => true,
-        Assumed::Open => false,
-    }
+    r == Assumed::Passes
 }

@@ -1,45 +1,28 @@
 -- The clause of a word, and the number at which to go on, by the tests that the code makes.
 -- Assumes nothing.
-use Prim.Native.Nat.{ℕ, zero, suc, ◌+◌, ◌-◌, ◌%◌, ◌≤◌, ◌<◌}
-use mathlib.Core.Path.{◌≡◌, refl, sym, ap, ◌∙◌}
-use mathlib.Core.Bool.{Bool, true, false}
-use mathlib.Core.List.{List, [], ◌∷◌}
+use Prim.Native.Nat.{ℕ, zero, suc, ◌+◌, ◌-◌, ◌%◌, ◌≤◌, ◌<◌, max}
+use mathlib.Core.Path.{◌≡◌, refl, sym, ◌∙◌}
+use mathlib.Core.List.{List}
 use native.Mathlib.Omega.{arith}
-use native.Mathlib.Decide.{ℕ_discrete}
 use native.Mathlib.Numerals.{unary_clauses}
-use lib.Dec.{leb}
-use lib.ListN.{length, get_or, set, take, drop, length-drop}
-use lib.Seq.{length-take-le}
+use lib.ListN.{length, get_or, set}
 use Rattle.paper.specs.declared.Reason.{Reason}
 use Rattle.paper.specs.declared.Extent.{Extent}
 use Rattle.paper.specs.Files.{File, ok, two, payload, field, even}
-use Rattle.paper.proofs.Lists.{eqb_yes, leb_yes, leb_no, leb_within, leb_beyond}
+use Rattle.paper.proofs.Lists.{eqb_yes, leb_within, leb_beyond}
 use Rattle.field.specs.Field.{extent_at}
 use Rattle.field.proofs.Laws.{stands}
-use Rattle.lookup.specs.Clause.{formula_word, proof_word, Entered, clause_bytes, Whole, Stands, onward, lowered, cleared}
+use Rattle.lookup.specs.Clause.{formula_word, proof_word, Entered, clause_bytes, Whole, Stands, onward, lowered}
 
--- the payload as the code cuts it out
-pub payload_part : (f : File) (at n : ℕ) → n ≡ two f (at + 1) → take (at + 3 + n - (at + 3)) (drop (at + 3) f) ≡ payload f (extent_at f at)
-unfolding payload extent_at
-payload_part f at n e = let m : at + 3 + n - (at + 3) ≡ two f (at + 1) = omega arith in rw m
-
--- the word w, as the code has it v
-module _ (f p : File) (w v : ℕ) (e : v ≡ w) where
-  pub clause_formula : v < 2097152 → (b : List ℕ) → b ≡ payload f (extent_at f (v % 1048576)) → b ≡ clause_bytes f p w
+-- the clause of the word w
+module _ (f p : File) (w : ℕ) where
+  pub clause_formula : w < 2097152 → payload f (extent_at f (w % 1048576)) ≡ clause_bytes f p w
   unfolding clause_bytes
-  clause_formula h b q = rw (← e) (rw (leb_beyond 2097152 v h, clause_bytes) q)
+  clause_formula h = rw (leb_beyond 2097152 w h, clause_bytes)
 
-  pub clause_proof : 2097152 ≤ v → (b : List ℕ) → b ≡ payload p (extent_at p (v % 1048576)) → b ≡ clause_bytes f p w
+  pub clause_proof : 2097152 ≤ w → payload p (extent_at p (w % 1048576)) ≡ clause_bytes f p w
   unfolding clause_bytes
-  clause_proof h b q = rw (← e) (rw (leb_within 2097152 v h, clause_bytes) q)
-
-  -- and it lies whole in its file
-  module _ (s : Stands f p w) where
-    pub formula_inside : v < 2097152 → v % 1048576 + 3 + two f (v % 1048576 + 1) ≤ length f
-    formula_inside h = rw e (s.in_formula (omega arith)).inside
-
-    pub proof_inside : 2097152 ≤ v → v % 1048576 + 3 + two p (v % 1048576 + 1) ≤ length p
-    proof_inside h = rw e (s.in_proof (omega arith)).inside
+  clause_proof h = rw (leb_within 2097152 w h, clause_bytes)
 
 -- the field lies whole in its file, by the paper's reading of it
 module _ (why : Reason) (tag : ℕ) (f : File) (at : ℕ) (e : Extent) (q : field why tag even f at ≡ ok e) where
@@ -61,15 +44,13 @@ module _ (why : Reason) (tag : ℕ) (f : File) (at : ℕ) (e : Extent) (q : fiel
 module _ (why : Reason) (tag : ℕ) (f p : File) (at : ℕ) (e : Extent) (small : at < 1048576) where
   pub clause_of_formula : field why tag even f at ≡ ok e → clause_bytes f p (formula_word at) ≡ payload f e
   clause_of_formula q =
-      let place : at ≡ (1048576 + at) % 1048576 = omega arith in
-      sym (clause_formula f p (1048576 + at) (1048576 + at) refl (omega arith) (payload f e)
-      (sym (payload_of why tag f at e q) ∙ ap (λ (n : ℕ). payload f (extent_at f n)) place))
+      let place : (1048576 + at) % 1048576 ≡ at = omega arith in
+      sym (clause_formula f p (formula_word at) (omega arith)) ∙ rw place (payload_of why tag f at e q)
 
   pub clause_of_proof : field why tag even p at ≡ ok e → clause_bytes f p (proof_word at) ≡ payload p e
   clause_of_proof q =
-      let place : at ≡ (2097152 + at) % 1048576 = omega arith in
-      sym (clause_proof f p (2097152 + at) (2097152 + at) refl (omega arith) (payload p e)
-      (sym (payload_of why tag p at e q) ∙ ap (λ (n : ℕ). payload p (extent_at p n)) place))
+      let place : (2097152 + at) % 1048576 ≡ at = omega arith in
+      sym (clause_proof f p (proof_word at) (omega arith)) ∙ rw place (payload_of why tag p at e q)
 
   pub formula_stands : field why tag even f at ≡ ok e → Stands f p (formula_word at)
   formula_stands q =
@@ -81,55 +62,15 @@ module _ (why : Reason) (tag : ℕ) (f p : File) (at : ℕ) (e : Extent) (small 
       let place : (2097152 + at) % 1048576 ≡ at = omega arith in
       record { in_formula = λ h. absurd (omega arith); in_proof = λ h. rw place (whole_of why tag p at e q) }
 
--- a clause that stands has an even number of bytes
-payload_length : (f : File) (at : ℕ) → Whole f at → length (payload f (extent_at f at)) ≡ two f (at + 1)
-unfolding payload extent_at
-payload_length f at w =
-    let i = w.inside in
-    let rest : length (drop (at + 3) f) ≡ length f - (at + 3) = length-drop (at + 3) f in
-    length-take-le (two f (at + 1)) (drop (at + 3) f) (omega arith)
-
-pub clause_even : (f p : File) (w : ℕ) → Stands f p w → length (clause_bytes f p w) % 2 ≡ 0
-unfolding clause_bytes
-clause_even f p w s = go (leb 2097152 w) refl
-  where
-    go : (b : Bool) → leb 2097152 w ≡ b
-        → length {A = ℕ} (elim b [ true ↦ payload p (extent_at p (w % 1048576)) | false ↦ payload f (extent_at f (w % 1048576)) ]) % 2 ≡ 0
-    go true q =
-        let h : Whole p (w % 1048576) = s.in_proof (leb_yes 2097152 w q) in
-        ap (λ (n : ℕ). n % 2) (payload_length p (w % 1048576) h) ∙ h.even
-    go false q =
-        let h : Whole f (w % 1048576) = s.in_formula (leb_no 2097152 w q) in
-        ap (λ (n : ℕ). n % 2) (payload_length f (w % 1048576) h) ∙ h.even
-
--- the number at which to go on
-none_beyond : (ws : List ℕ) (n : ℕ) → length ws ≤ n → get_or ws n 0 ≡ 0
-none_beyond [] n h = refl
-none_beyond (w ∷ ws) zero h = absurd (omega arith)
-none_beyond (w ∷ ws) (suc n) h = none_beyond ws n (omega arith)
-
-module _ (ws : List ℕ) (n v : ℕ) (e : v ≡ get_or ws n 0) where
-  pub onward_live : Entered v → n ≡ onward ws n
+-- the number at which to go on, by the word w of the number n, or 0 beyond the table
+module _ (ws : List ℕ) (n w : ℕ) (e : w ≡ get_or ws n 0) where
+  pub onward_live : Entered w → n ≡ onward ws n
   unfolding onward
   onward_live h = rw (leb_within 1048576 (get_or ws n 0) (omega arith), onward)
 
-  pub onward_here : v < 1048576 → v < n → n ≡ onward ws n
+  pub onward_further : w < 1048576 → max n w ≡ onward ws n
   unfolding onward
-  onward_here h k = simp (leb_beyond 1048576 (get_or ws n 0) (omega arith), leb_beyond n (get_or ws n 0) (omega arith), onward)
-
-  pub onward_later : v < 1048576 → n ≤ v → v ≡ onward ws n
-  unfolding onward
-  onward_later h k = simp (leb_beyond 1048576 (get_or ws n 0) (omega arith), leb_within n (get_or ws n 0) (omega arith), onward) e
-
-pub onward_beyond : (ws : List ℕ) (n : ℕ) → length ws ≤ n → n ≡ onward ws n
-onward_beyond ws n h = go (ℕ_discrete n 0)
-  where
-    z : 0 ≡ get_or ws n 0
-    z = sym (none_beyond ws n h)
-
-    go : Dec (n ≡ 0) → n ≡ onward ws n
-    go (yes e) = e ∙ onward_later ws n 0 z (omega arith) (omega arith)
-    go (no ne) = onward_here ws n 0 z (omega arith) (omega arith)
+  onward_further h = rw (e, leb_beyond 1048576 (get_or ws n 0) (omega arith), onward)
 
 -- the words right below a number that was cleared: one that is that of a clause, one that is not, and the end
 module _ (ws : List ℕ) (e : ℕ) where
@@ -147,7 +88,3 @@ module _ (ws : List ℕ) (e : ℕ) where
   unfolding lowered
   lowered_end zero h = refl
   lowered_end (suc k) h = absurd (omega arith)
-
-pub cleared_by : (ws us : List ℕ) (n r : ℕ) → r ≡ onward ws (n + 1) → us ≡ lowered (set ws n r) n r → us ≡ cleared ws n
-unfolding cleared
-cleared_by ws us n r e q = rw (← e) q

@@ -1,6 +1,6 @@
 -- The live clauses as the table holds them: over the numbers in turn, when a clause is entered, and when one is removed.
 -- Assumes nothing.
-use Prim.Native.Nat.{ℕ, zero, suc, ◌+◌, ◌≤◌, ◌<◌}
+use Prim.Native.Nat.{ℕ, zero, suc, ◌+◌, ◌≤◌, ◌<◌, max}
 use mathlib.Core.Path.{◌≡◌, refl, sym, ap, ◌∙◌}
 use mathlib.Core.Logic.{◌≢◌}
 use mathlib.Core.Bool.{Bool, true, false, true≢false, false≢true}
@@ -246,13 +246,11 @@ lowered_live f p (suc n) e ws low = go (lowered_live f p n e (set ws n e) low) (
 -- the number from which to go on is not that of a clause's word
 pub onward_low : (ws : List ℕ) (n : ℕ) → n < 1048576 → onward ws n < 1048576
 unfolding onward
-onward_low ws n h = go (leb 1048576 (get_or ws n 0)) refl (leb n (get_or ws n 0))
+onward_low ws n h = go (leb 1048576 (get_or ws n 0)) refl
   where
-    go : (b : Bool) → leb 1048576 (get_or ws n 0) ≡ b → (c : Bool)
-        → elim b [ true ↦ n | false ↦ elim c [ true ↦ get_or ws n 0 | false ↦ n ] ] < 1048576
-    go true q c = h
-    go false q true = leb_no 1048576 (get_or ws n 0) q
-    go false q false = h
+    go : (b : Bool) → leb 1048576 (get_or ws n 0) ≡ b → elim b [ true ↦ n | false ↦ max n (get_or ws n 0) ] < 1048576
+    go true q = h
+    go false q = let w = leb_no 1048576 (get_or ws n 0) q in omega arith
 
 -- a number cleared is a clause removed
 pub live_cleared : (f p : File) (ws : List ℕ) (n : ℕ) → n < 65536 → live f p (cleared ws n) ≡ without (n ∷ []) (live f p ws)
@@ -379,13 +377,6 @@ codes_some (x ∷ y ∷ b) h e = let z : ◌≡◌ {A = ℕ} 0 1 = cc in absurd 
 -- the search for an empty clause: a word that stands for none
 abbrev pub NotEmpty : File → File → ℕ → Type 0
 NotEmpty f p w = Entered w → 2 ≤ length (clause_bytes f p w)
-
-module _ (f p : File) (w : ℕ) where
-  pub long_clause : (b : List ℕ) → b ≡ clause_bytes f p w → 2 ≤ length b → NotEmpty f p w
-  long_clause b q h ne = rw (← q) h
-
-  pub no_clause : w < 1048576 → NotEmpty f p w
-  no_clause e ne = absurd (omega arith)
 
 module _ (f p : File) (ws : List ℕ) where
   pub empty_found : (n : ℕ) → n < length ws → Entered (get_or ws n 0) → (b : List ℕ) → b ≡ clause_bytes f p (get_or ws n 0) → length b < 2 → EmptyLive f p ws true

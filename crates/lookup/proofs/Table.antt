@@ -1,6 +1,6 @@
 -- What the words of the clause table always are: at the start, when a clause is entered, when a number is cleared, and over those in use.
 -- Assumes nothing.
-use Prim.Native.Nat.{ℕ, zero, suc, ◌+◌, ◌-◌, ◌≤◌, ◌<◌}
+use Prim.Native.Nat.{ℕ, zero, suc, ◌+◌, ◌-◌, ◌≤◌, ◌<◌, max}
 use mathlib.Core.Path.{◌≡◌, refl, sym, ◌∙◌}
 use mathlib.Core.Logic.{◌≢◌, ◌⊎◌, inl, inr}
 use mathlib.Core.Bool.{Bool, true, false}
@@ -102,50 +102,46 @@ table_entered {f} {p} {n} {ws} t h w in_use stands =
 
 -- where the search goes on: not before the number, not past those in use, past no live one, and at a live one or at next
 module _ (ws : List ℕ) (n : ℕ) where
+  abbrev further : Bool → ℕ
+  further b = elim b [ true ↦ n | false ↦ max n (get_or ws n 0) ]
+
   pub onward_from : n ≤ onward ws n
   unfolding onward
-  onward_from = go (leb 1048576 (get_or ws n 0)) (leb n (get_or ws n 0)) refl
+  onward_from = go (leb 1048576 (get_or ws n 0))
     where
-      go : (b c : Bool) → leb n (get_or ws n 0) ≡ c → n ≤ elim b [ true ↦ n | false ↦ elim c [ true ↦ get_or ws n 0 | false ↦ n ] ]
-      go true c q = omega arith
-      go false true q = leb_yes n (get_or ws n 0) q
-      go false false q = omega arith
+      go : (b : Bool) → n ≤ further b
+      go true = omega arith
+      go false = omega arith
 
   module _ {f p : File} {next : ℕ} (t : ClauseTable f p next ws) where
     pub onward_within : n ≤ next → onward ws n ≤ next
     unfolding onward
-    onward_within h = go (leb 1048576 (get_or ws n 0)) refl (leb n (get_or ws n 0))
+    onward_within h = go (leb 1048576 (get_or ws n 0)) refl
       where
-        go : (b : Bool) → leb 1048576 (get_or ws n 0) ≡ b → (c : Bool) → elim b [ true ↦ n | false ↦ elim c [ true ↦ get_or ws n 0 | false ↦ n ] ] ≤ next
-        go true q c = h
-        go false q true = t.bounded n (leb_no 1048576 (get_or ws n 0) q)
-        go false q false = h
+        go : (b : Bool) → leb 1048576 (get_or ws n 0) ≡ b → further b ≤ next
+        go true q = h
+        go false q = let w = t.bounded n (leb_no 1048576 (get_or ws n 0) q) in omega arith
 
     pub onward_passes : (k : ℕ) → n ≤ k → k < onward ws n → get_or ws k 0 < 1048576
     unfolding onward
-    onward_passes k a b = go (leb 1048576 (get_or ws n 0)) refl (leb n (get_or ws n 0)) b
+    onward_passes k a b = go (leb 1048576 (get_or ws n 0)) refl b
       where
-        go : (b : Bool) → leb 1048576 (get_or ws n 0) ≡ b → (c : Bool) → k < elim b [ true ↦ n | false ↦ elim c [ true ↦ get_or ws n 0 | false ↦ n ] ]
-            → get_or ws k 0 < 1048576
-        go true q c h = absurd (omega arith)
-        go false q true h = t.passed n k (leb_no 1048576 (get_or ws n 0) q) a h
-        go false q false h = absurd (omega arith)
+        go : (b : Bool) → leb 1048576 (get_or ws n 0) ≡ b → k < further b → get_or ws k 0 < 1048576
+        go true q h = absurd (omega arith)
+        go false q h = t.passed n k (leb_no 1048576 (get_or ws n 0) q) a (omega arith)
 
     pub onward_ends : 1 ≤ n → n ≤ next → (onward ws n ≡ next) ⊎ Entered (get_or ws (onward ws n) 0)
     unfolding onward
-    onward_ends a h = go (leb 1048576 (get_or ws n 0)) refl (leb n (get_or ws n 0)) refl (ℕ_discrete n next)
+    onward_ends a h = go (leb 1048576 (get_or ws n 0)) refl (ℕ_discrete n next)
       where
-        go : (b : Bool) → leb 1048576 (get_or ws n 0) ≡ b → (c : Bool) → leb n (get_or ws n 0) ≡ c → Dec (n ≡ next)
-            → (elim b [ true ↦ n | false ↦ elim c [ true ↦ get_or ws n 0 | false ↦ n ] ] ≡ next)
-            ⊎ Entered (get_or ws (elim b [ true ↦ n | false ↦ elim c [ true ↦ get_or ws n 0 | false ↦ n ] ]) 0)
-        go true q c r d = inr (leb_yes 1048576 (get_or ws n 0) q)
-        go false q true r (yes e) = let z = t.unused n (omega arith) in let y = leb_yes n (get_or ws n 0) r in absurd (omega arith)
-        go false q true r (no ne) = (t.lands n a (omega arith) (leb_no 1048576 (get_or ws n 0) q)).ends
-        go false q false r (yes e) = inl e
-        go false q false r (no ne) =
-            let x = (t.lands n a (omega arith) (leb_no 1048576 (get_or ws n 0) q)).above in
-            let y = leb_no n (get_or ws n 0) r in
-            absurd (omega arith)
+        go : (b : Bool) → leb 1048576 (get_or ws n 0) ≡ b → Dec (n ≡ next) → (further b ≡ next) ⊎ Entered (get_or ws (further b) 0)
+        go true q d = inr (leb_yes 1048576 (get_or ws n 0) q)
+        go false q (yes e) = let z = t.unused n (omega arith) in inl (omega arith)
+        go false q (no ne) =
+            let l = t.lands n a (omega arith) (leb_no 1048576 (get_or ws n 0) q) in
+            let x = l.above in
+            let m : max n (get_or ws n 0) ≡ get_or ws n 0 = omega arith in
+            rw m l.ends
 
 -- n and those right below it that are not live, where no number between n and e is
 lowered_table : {f p : File} {next : ℕ} (n e : ℕ) (ws : List ℕ) → Lowering f p next (suc n) ws → n < length ws → n < next → e ≤ next → e < 1048576

@@ -1,5 +1,5 @@
 -- The words of the clause table: the clause that a word stands for, the number at which to go on, and what the words always are.
-use Rattle.std.specs.Prelude.{ℕ, zero, suc, ◌+◌, ◌%◌, ◌≤◌, ◌<◌, ◌≡◌, ◌⊎◌, true, false, List, leb, length, get_or, set}
+use Rattle.std.specs.Prelude.{ℕ, zero, suc, ◌+◌, ◌%◌, ◌≤◌, ◌<◌, ◌≡◌, ◌⊎◌, true, false, List, leb, length, get_or, max, set}
 use Rattle.paper.specs.Files.{File, two, payload}
 use Rattle.field.specs.Field.{extent_at}
 
@@ -34,11 +34,7 @@ pub record Stands (formula proof : File) (w : ℕ) : Type 0 where
 
 -- the first number from n on that may be live: a word that is not that of a clause can tell to go on at a later number
 unfoldable pub onward : List ℕ → ℕ → ℕ
-onward ws n =
-    elim (leb 1048576 (get_or ws n 0)) [
-      | true ↦ n
-      | false ↦ elim (leb n (get_or ws n 0)) [ true ↦ get_or ws n 0 | false ↦ n ]
-    ]
+onward ws n = elim (leb 1048576 (get_or ws n 0)) [ true ↦ n | false ↦ max n (get_or ws n 0) ]
 
 -- the words of the numbers right below n that are not live tell to go on at e
 unfoldable pub lowered : List ℕ → ℕ → ℕ → List ℕ

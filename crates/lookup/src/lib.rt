@@ -21,18 +21,12 @@ fn payload_at(s: &[u8], at: usize) -> &[u8]
     &s[start..start + size]
 }
 
-fn wide(x: u32) -> usize
-    ensures { (result ≡ x) × (result < 4294967296) }
-{
-    x as usize
-}
-
 // The clause of number n, as it stands in the formula or in the proof.
 pub fn clause_at<'a>(formula: &'a [u8], proof: &'a [u8], words: &[u32], n: usize) -> &'a [u8]
     requires { (n < length words.now) × (Entered (get_or words.now n 0) × Stands formula.now proof.now (get_or words.now n 0)) }
     ensures { result.now ≡ clause_bytes formula.now proof.now (get_or words.now n 0) }
 {
-    let w = wide(words[n]);
+    let w = words[n] as usize;
     let at = w % 1048576;
     if w < 2097152 {
         return payload_at(formula, at);
@@ -68,17 +62,10 @@ pub fn enter(words: &mut [u32], n: usize, word: u32)
 pub fn onward(words: &[u32], n: usize) -> usize
     ensures { result ≡ onward words.now n }
 {
-    if words.len() <= n {
-        return n;
+    match words.get(n) {
+        Some(w) if *w < LIVE => n.max(*w as usize),
+        _ => n,
     }
-    let w = wide(words[n]);
-    if 1048576 <= w {
-        return n;
-    }
-    if w < n {
-        return n;
-    }
-    w
 }
 
 // The words of the numbers right below n that are not live tell to go on at another number.
@@ -86,12 +73,10 @@ fn lower(words: &mut [u32], n: usize, word: u32)
     requires { n ≤ length words.old }
     ensures { words.new ≡ lowered words.old n word }
 {
-    let mut k = n;
-    while 0 < k {
-        if LIVE <= words[k - 1] {
+    for k in (0..n).rev() {
+        if LIVE <= words[k] {
             return;
         }
-        k -= 1;
         words[k] = word;
     }
 }
@@ -111,15 +96,10 @@ pub fn has_empty<'a>(formula: &'a [u8], proof: &'a [u8], words: &[u32]) -> bool
     requires { ClauseTable formula.now proof.now (length words.now) words.now }
     ensures { EmptyLive formula.now proof.now words.now result }
 {
-    let mut n = 0;
-    while n < words.len() {
-        if LIVE <= words[n] {
-            let clause = clause_at(formula, proof, words, n);
-            if clause.len() < 2 {
-                return true;
-            }
+    for n in 0..words.len() {
+        if LIVE <= words[n] && clause_at(formula, proof, words, n).len() < 2 {
+            return true;
         }
-        n += 1;
     }
     false
 }

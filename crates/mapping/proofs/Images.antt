@@ -22,7 +22,7 @@ use Rattle.paper.proofs.Lists.{and_yes, or_no, leb_yes, eqb_no}
 use Rattle.table.specs.Table.{Kept, value_at, mapped_at, image_at, image_of, set_image, Zero}
 use Rattle.table.proofs.Laws.{length_set_image, image_unmapped, image_same, image_other, mapped_same, mapped_other, value_set_image}
 use Rattle.table.proofs.Kept.{kept_refl, same_table}
-use Rattle.mapping.specs.declared.Loaded.TheVariants.{Once}
+use Rattle.std.specs.Prelude.{Ok}
 use Rattle.mapping.specs.Mapping.{variables, Fitting, Bare, loaded, unloaded, said_by}
 use Rattle.mapping.proofs.Unloading.{Apart, unload_back, unload_value}
 use Rattle.mapping.proofs.Loading.{bare_mapped, apart_set}
@@ -96,8 +96,8 @@ no_two_distinct why u (y ∷ xs) seen p e = go (is_in y seen) refl e (no_two_dis
         other x (Memᴰ.head p) = ap (λ a. is_in a seen) p ∙ q
         other x (Memᴰ.tail m) = (or_no (eqb x y) (is_in x seen) (r.1 x m)).1
 
--- the answer `Once`, as a fact of the witness
-pub once_distinct : (s : Witness) → ((why : Reason) (p : ℕ) → no_two why [] 4 p (variables s) ≡ said_by why p Once) → Distinct (variables s)
+-- the answer `Ok`, as a fact of the witness
+pub once_distinct : (s : Witness) → ((why : Reason) (p : ℕ) → no_two why [] 4 p (variables s) ≡ said_by why p (Ok tt)) → Distinct (variables s)
 unfolding said_by
 once_distinct s f = (no_two_distinct ProofTwice 4 (variables s) [] 0 (f ProofTwice 0)).0
 

@@ -3,24 +3,24 @@
 use Prim.Native.Nat.{ℕ, ◌+◌, ◌*◌, ◌/◌, ◌%◌, ◌<◌, ◌≤◌}
 use mathlib.Core.Path.{◌≡◌, refl, sym, ap, subst, ◌∙◌}
 use mathlib.Core.Logic.{◌≢◌}
-use mathlib.Core.Bool.{true, false, ◌||◌}
+use mathlib.Core.Bool.{Bool, true, false, ◌||◌}
+use mathlib.Core.List.Memᴰ
 use mathlib.Core.List.{List, [], ◌∷◌}
 use native.Mathlib.Omega.{arith}
 use native.Mathlib.Decide.{ℕ_discrete}
 use borrow.Author.Tests.{eq-eqb, ne_eqb}
 use lib.Dec.{eqb}
-use lib.ListN.{length, get_or, drop}
+use lib.ListN.{length, get_or}
 use Rattle.paper.specs.declared.Reason.{Reason}
 use Rattle.paper.specs.Atoms.{◌∈◌, Witness}
-use Rattle.paper.specs.Files.{ok, bad, two, codes, mappings}
+use Rattle.paper.specs.Files.{ok, bad, codes, mappings}
 use Rattle.paper.specs.Conditions.{is_in}
 use Rattle.paper.specs.Refusals.{no_two}
 use Rattle.table.specs.Table.{value_at, mapped_at, set_image}
 use Rattle.table.proofs.Laws.{length_set_image, first_set_image_other, second_set_image_other, mapped_same, mapped_other, value_set_image}
 use Rattle.table.proofs.Kept.{same_table}
-use Rattle.mapping.specs.declared.Loaded.TheVariants.{Once, Twice}
 use Rattle.mapping.specs.Mapping.{variables, Fitting, Bare, loaded, unloaded}
-use Rattle.mapping.proofs.Pairs.{next, none, listed, Part, part_start, part_here, part_next}
+use Rattle.mapping.proofs.Pairs.{four_each, fits_here, fits_next}
 use Rattle.mapping.proofs.Unloading.{Apart, unload_back, unload_value}
 
 -- one step of the paper's test for a second mapping
@@ -39,27 +39,29 @@ bare_mapped t bare v =
     let b = (bare v).0 in
     ne_eqb (get_or t (v * 2) 0 / 4 % 2) 1 (λ e. omega arith)
 
--- the variables in seen are those that the table t has mapped; t₀ is the table at entry, i the place in the bytes w
-pub record Loading (w t₀ t : List ℕ) (i : ℕ) : Type 0 where
-  pub long : length t ≡ length t₀
-  pub rest : loaded t (mappings (codes (drop i w))) ≡ loaded t₀ (mappings (codes w))
-  pub part : Part w i
+-- the variables in seen are those that the table t has mapped; t₀ is the table at entry, k pairs of the bytes w are past, and `left` is left
+pub record Loading (w t₀ t : List ℕ) (left : Witness) (k : ℕ) : Type 0 where
+  pub fits : Fitting left
+  pub part : (v : ℕ) → v ∈ variables left → v ∈ variables (mappings (codes w))
+  pub place : 4 * (k + length {A = ℕ × ℕ} left) ≤ length w
+  pub rest : loaded t left ≡ loaded t₀ (mappings (codes w))
   pub seen : List ℕ
   pub marks : (v : ℕ) → v < 4096 → mapped_at t v ≡ is_in v seen
-  pub sees : (why : Reason) (p : ℕ) → no_two why [] 4 p (variables (mappings (codes w))) ≡ no_two why seen 4 (p + i) (variables (mappings (codes (drop i w))))
+  pub sees : (why : Reason) (p : ℕ) → no_two why [] 4 p (variables (mappings (codes w))) ≡ no_two why seen 4 (p + 4 * k) (variables left)
   pub apart : Apart (mappings (codes w)) t₀ t
   pub values : (v : ℕ) → value_at t v ≡ value_at t₀ v
 
-pub loading_start : (w t : List ℕ) → Bare t → Loading w t t 0
+pub loading_start : (w t : List ℕ) → Fitting (mappings (codes w)) → Bare t → Loading w t t (mappings (codes w)) 0
 unfolding is_in
-loading_start w t bare =
+loading_start w t fits bare =
     record {
-      long = refl;
+      fits = fits;
+      part = λ v m. m;
+      place = omega (arith, four_each w);
       rest = refl;
-      part = part_start w;
       seen = [];
       marks = λ v h. bare_mapped t bare v;
-      sees = λ why p. let e : p ≡ p + 0 = omega arith in ap (λ q. no_two why [] 4 q (variables (mappings (codes w)))) e;
+      sees = λ why p. let e : p ≡ p + 4 * 0 = omega arith in ap (λ q. no_two why [] 4 q (variables (mappings (codes w)))) e;
       apart = record { long = refl; first = λ v n. refl; second = λ v n. refl };
       values = λ v. refl;
     }
@@ -84,59 +86,54 @@ marked t v a w seen h e = go (ℕ_discrete w v)
     go (yes p) = ap (mapped_at (set_image t v a)) p ∙ mapped_same t v a h ∙ sym (ap (λ b. b || is_in w seen) (eq-eqb w v p))
     go (no n) = mapped_other t v a w n ∙ e ∙ sym (ap (λ b. b || is_in w seen) (ne_eqb w v n))
 
-module _ (w t₀ t : List ℕ) (i : ℕ) (k : Loading w t₀ t i) where
-  module _ (long : 8192 ≤ length t₀) (fits : Fitting (mappings (codes w))) (h : i + 3 < length w) where
-    here : (1 ≤ two w i) × ((two w i < 4096) × (two w (i + 2) < 8192))
-    here = fits (two w i) (two w (i + 2)) (part_here w i h k.part)
+module _ {w t₀ t : List ℕ} {left : Witness} {k : ℕ} (g : Loading w t₀ t left k) where
+  abbrev s : Witness
+  s = mappings (codes w)
 
-    -- the variable at the place, and those after it
-    sees_next : (why : Reason) (p : ℕ) → no_two why [] 4 p (variables (mappings (codes w)))
-        ≡ no_two why k.seen 4 (p + i) (two w i ∷ variables (mappings (codes (drop (i + 4) w))))
-    sees_next why p = k.sees why p ∙ ap (λ s. no_two why k.seen 4 (p + i) (variables s)) (next w i h)
+  -- v is mapped to a next, and `more` is left after it
+  module _ {v a : ℕ} {more : Witness} (step : ◌≡◌ {A = Witness} left ((v, a) ∷ more)) where
+    sees_next : (why : Reason) (p : ℕ) → no_two why [] 4 p (variables s) ≡ no_two why g.seen 4 (p + 4 * k) (v ∷ variables more)
+    sees_next why p = g.sees why p ∙ ap (λ (r : Witness). no_two why g.seen 4 (p + 4 * k) (variables r)) step
 
-    pub loading_turn : mapped_at t (two w i) ≡ false → Loading w t₀ (set_image t (two w i) (two w (i + 2))) (i + 4)
+    marks_here : {b : Bool} → mapped_at t v ≡ b → is_in v g.seen ≡ b
+    marks_here e = sym (g.marks v (fits_here step g.fits).1.0) ∙ e
+
+    pub place_here : {i : ℕ} → i ≡ k → 4 * i < length w
+    place_here e = omega (arith, g.place, ap (length {A = ℕ × ℕ}) step)
+
+    pub loading_turn : 8192 ≤ length t → mapped_at t v ≡ false → {u : List ℕ} → u ≡ set_image t v a → Loading w t₀ u more (k + 1)
     unfolding loaded
-    loading_turn new =
-        let l = k.long in
-        let f = here in
-        record {
-          long = length_set_image t (two w i) (two w (i + 2)) ∙ k.long;
-          rest = sym (ap (loaded t) (next w i h)) ∙ k.rest;
-          part = part_next w i h k.part;
-          seen = two w i ∷ k.seen;
-          marks = λ v b. marked t (two w i) (two w (i + 2)) v k.seen (omega arith) (k.marks v b);
+    loading_turn long new {u} e =
+        rw e
+        (record {
+          fits = fits_next step g.fits;
+          part = λ x m. g.part x (rw step (Memᴰ.tail m));
+          place = omega (arith, g.place, ap (length {A = ℕ × ℕ}) step);
+          rest = sym (ap (loaded t) step) ∙ g.rest;
+          seen = v ∷ g.seen;
+          marks = λ x b. let f = fits_here step g.fits in marked t v a x g.seen (omega arith) (g.marks x b);
           sees = λ why p.
-              let e : p + i + 4 ≡ p + (i + 4) = omega arith in
+              let q : p + 4 * k + 4 ≡ p + 4 * (k + 1) = omega arith in
               sees_next why p
-              ∙ no_two_new why k.seen 4 (p + i) (two w i) (variables (mappings (codes (drop (i + 4) w)))) (sym (k.marks (two w i) f.1.0) ∙ new)
-              ∙ ap (λ q. no_two why (two w i ∷ k.seen) 4 q (variables (mappings (codes (drop (i + 4) w))))) e;
-          apart = apart_set (mappings (codes w)) t₀ t (two w i) (two w (i + 2)) (listed (mappings (codes w)) (part_here w i h k.part)) k.apart;
-          values = λ v. value_set_image t (two w i) (two w (i + 2)) v ∙ k.values v;
-        }
+              ∙ no_two_new why g.seen 4 (p + 4 * k) v (variables more) (marks_here new)
+              ∙ ap (λ i. no_two why (v ∷ g.seen) 4 i (variables more)) q;
+          apart = apart_set s t₀ t v a (g.part v (rw step (Memᴰ.head refl))) g.apart;
+          values = λ x. value_set_image t v a x ∙ g.values x;
+        })
 
     -- a variable that is mapped already
-    pub loading_twice : mapped_at t (two w i) ≡ true → (why : Reason) (p : ℕ) → no_two why [] 4 p (variables (mappings (codes w))) ≡ bad why (p + i)
-    loading_twice old why p =
-        sees_next why p
-        ∙ no_two_old why k.seen 4 (p + i) (two w i) (variables (mappings (codes (drop (i + 4) w)))) (sym (k.marks (two w i) here.1.0) ∙ old)
+    pub loading_twice : {i : ℕ} → i ≡ k → mapped_at t v ≡ true → (why : Reason) (p : ℕ) → no_two why [] 4 p (variables s) ≡ bad why (p + 4 * i)
+    loading_twice e old why p = rw e (sees_next why p ∙ no_two_old why g.seen 4 (p + 4 * k) v (variables more) (marks_here old))
 
   -- what was mapped so far, unloaded
-  pub loading_back : 8192 ≤ length t₀ → Fitting (mappings (codes w)) → Bare t₀ → unloaded t (mappings (codes w)) ≡ t₀
-  loading_back long fits bare =
-      same_table (unload_back (mappings (codes w)) t₀ t long fits bare k.apart) (λ v. unload_value (mappings (codes w)) t v ∙ k.values v)
+  pub loading_back : 8192 ≤ length t₀ → Fitting s → Bare t₀ → unloaded t s ≡ t₀
+  loading_back long fits bare = same_table (unload_back s t₀ t long fits bare g.apart) (λ v. unload_value s t v ∙ g.values v)
 
-  module _ (h : length w ≤ i) where
-    pub loading_once : (why : Reason) (p : ℕ) → no_two why [] 4 p (variables (mappings (codes w))) ≡ ok tt
+  module _ (end : left ≡ []) where
+    pub loading_once : (why : Reason) (p : ℕ) → no_two why [] 4 p (variables s) ≡ ok tt
     unfolding no_two
-    loading_once why p = k.sees why p ∙ ap (λ s. no_two why k.seen 4 (p + i) (variables s)) (none w i h)
+    loading_once why p = g.sees why p ∙ ap (λ (r : Witness). no_two why g.seen 4 (p + 4 * k) (variables r)) end
 
-    pub loading_end : t ≡ loaded t₀ (mappings (codes w))
+    pub loading_end : t ≡ loaded t₀ s
     unfolding loaded
-    loading_end = sym (ap (loaded t) (none w i h)) ∙ k.rest
-
--- the place of a variable that is mapped twice is the pair's, and there is none where each is mapped once
-pub inside : (j i n : ℕ) → Twice j ≡ Twice i → j < n → i < n
-inside j i n e h = let k : j ≡ i = cc in omega arith
-
-pub not_twice : (i n : ℕ) → Once ≡ Twice i → i < n
-not_twice i n e = let z : ◌≡◌ {A = ℕ} 0 1 = cc in absurd (omega arith)
+    loading_end = sym (ap (loaded t) end) ∙ g.rest

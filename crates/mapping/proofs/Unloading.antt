@@ -7,35 +7,23 @@ use mathlib.Core.List.Memᴰ
 use mathlib.Core.List.{List, [], ◌∷◌}
 use native.Mathlib.Omega.{arith}
 use native.Mathlib.Decide.{ℕ_discrete}
-use lib.ListN.{length, get_or, drop}
+use lib.ListN.{length, get_or}
 use Rattle.paper.specs.Atoms.{◌∈◌, Witness}
-use Rattle.paper.specs.Files.{two, codes, mappings}
 use Rattle.table.specs.Table.{Kept, clear_image, value_at}
 use Rattle.table.proofs.Laws.{length_clear_image, first_clear_image, second_clear_image, first_clear_image_other, second_clear_image_other, value_clear_image}
 use Rattle.mapping.specs.Mapping.{variables, Fitting, Bare, unloaded}
-use Rattle.mapping.proofs.Pairs.{next, none, Part, part_start, part_next}
+use Rattle.mapping.proofs.Pairs.{fits_next}
 
--- t₀ is the table at entry, t the table at the place i of the bytes w
-pub record Unloading (w t₀ t : List ℕ) (i : ℕ) : Type 0 where
-  pub long : length t ≡ length t₀
-  pub rest : unloaded t (mappings (codes (drop i w))) ≡ unloaded t₀ (mappings (codes w))
-  pub part : Part w i
+-- t₀ is the table at entry, t the table now, and `left` is left of the witness s
+pub record Unloading (s : Witness) (t₀ t : List ℕ) (left : Witness) : Type 0 where
+  pub fits : Fitting left
+  pub rest : unloaded t left ≡ unloaded t₀ s
 
-pub unloading_start : (w t : List ℕ) → Unloading w t t 0
-unloading_start w t = record { long = refl; rest = refl; part = part_start w }
-
-pub unloading_turn : (w t₀ t : List ℕ) (i : ℕ) → i + 3 < length w → Unloading w t₀ t i → Unloading w t₀ (clear_image t (two w i)) (i + 4)
+pub unloading_turn : {s left more : Witness} {t₀ t u : List ℕ} {v a : ℕ} → ◌≡◌ {A = Witness} left ((v, a) ∷ more) → Unloading s t₀ t left
+    → u ≡ clear_image t v → Unloading s t₀ u more
 unfolding unloaded
-unloading_turn w t₀ t i h u =
-    record {
-      long = length_clear_image t (two w i) ∙ u.long;
-      rest = sym (ap (unloaded t) (next w i h)) ∙ u.rest;
-      part = part_next w i h u.part;
-    }
-
-pub unloading_end : (w t₀ t : List ℕ) (i : ℕ) → length w ≤ i → Unloading w t₀ t i → t ≡ unloaded t₀ (mappings (codes w))
-unfolding unloaded
-unloading_end w t₀ t i h u = sym (ap (unloaded t) (none w i h)) ∙ u.rest
+unloading_turn {more} {t} step k e =
+    record { fits = fits_next step k.fits; rest = ap (λ (x : List ℕ). unloaded x more) e ∙ sym (ap (unloaded t) step) ∙ k.rest }
 
 -- u has the images of t but for those of the variables listed in s
 pub record Apart (s : Witness) (t u : List ℕ) : Type 0 where

@@ -1,11 +1,9 @@
 -- The mappings of a witness, written into the table of the variables and cleared from it.
-use Rattle.std.specs.Prelude.{ℕ, ◌+◌, ◌*◌, ◌≤◌, ◌<◌, ◌≡◌, List, [], ◌∷◌, map, get_or}
+use Rattle.std.specs.Prelude.{ℕ, ◌+◌, ◌*◌, ◌≤◌, ◌<◌, ◌≡◌, List, [], ◌∷◌, map, get_or, Result, Ok, Err}
 use Rattle.paper.specs.declared.Reason.{Reason}
 use Rattle.paper.specs.Atoms.{◌∈◌, Witness}
 use Rattle.paper.specs.Files.{Read, ok, bad}
 use Rattle.table.specs.Table.{set_image, clear_image}
-use Rattle.mapping.specs.declared.Loaded.{Loaded}
-use Rattle.mapping.specs.declared.Loaded.TheVariants.{Once, Twice}
 
 -- the variables that a witness lists
 abbrev pub variables : Witness → List ℕ
@@ -30,11 +28,11 @@ unloaded t [] = t
 unloaded t (m ∷ s) = unloaded (clear_image t m.0) s
 
 -- what the paper says of a variable mapped twice, by the code's answer: the place is counted from that of the first pair
-unfoldable pub said_by : Reason → ℕ → Loaded → Read (Unit {0})
-said_by why p Once = ok tt
-said_by why p (Twice i) = bad why (p + i)
+unfoldable pub said_by : Reason → ℕ → Result (Unit {0}) ℕ → Read (Unit {0})
+said_by why p (Ok u) = ok u
+said_by why p (Err i) = bad why (p + i)
 
 -- the table after the code's answer: a witness that maps a variable twice leaves it as it was
-unfoldable pub table_after : Loaded → List ℕ → Witness → List ℕ
-table_after Once t s = loaded t s
-table_after (Twice i) t s = t
+unfoldable pub table_after : Result (Unit {0}) ℕ → List ℕ → Witness → List ℕ
+table_after (Ok u) t s = loaded t s
+table_after (Err i) t s = t

@@ -2,47 +2,36 @@
 // which finds a variable that is mapped twice on the way, and cleared from it after the step.
 #![tactic(auto)]
 
-ghost use Rattle.std.specs.Prelude.{◌≡◌, [], ℕ, ◌%◌, ◌<◌, ◌≤◌, length};
+ghost use Rattle.std.specs.Prelude.{◌≡◌, [], ℕ, Err, ◌%◌, ◌<◌, ◌≤◌, length};
 ghost use Rattle.paper.specs.declared.Reason.{Reason};
 ghost use Rattle.paper.specs.Files.{codes, mappings};
 ghost use Rattle.paper.specs.Refusals.{no_two};
 ghost use Rattle.mapping.specs.Mapping.{variables, Fitting, Bare, unloaded, said_by, table_after};
-
-// Whether each variable is mapped once; or the offset of the first pair whose variable is mapped already.
-#[derive(Clone, Copy)]
-pub enum Loaded {
-    Once,
-    Twice(usize),
-}
 
 // Clears the image of each variable that the witness lists.
 pub fn unload_witness(w: &[u8], t: &mut [u8])
     requires { (8192 ≤ length t.old) × ((length w.now % 4 ≡ 0) × Fitting (mappings (codes w.now))) }
     ensures { t.new ≡ unloaded t.old (mappings (codes w.now)) }
 {
-    let mut i: usize = 0;
-    while i < w.len() {
-        table::clear_image(t, field::pair_at(w, i));
-        i += 4;
+    for (v, _) in codes::mapped(w) {
+        table::clear_image(t, v);
     }
 }
 
-// Maps each variable that the witness lists, into a table where none is mapped. A variable listed twice leaves the table as it was.
-pub fn load_witness(w: &[u8], t: &mut [u8]) -> Loaded
+// Maps each variable that the witness lists, into a table where none is mapped. Where one is listed twice, the error is the
+// offset of the first pair whose variable is mapped already, and the table is as it was.
+pub fn load_witness(w: &[u8], t: &mut [u8]) -> Result<(), usize>
     requires { (8192 ≤ length t.old) × ((length w.now % 4 ≡ 0) × (Fitting (mappings (codes w.now)) × Bare t.old)) }
     ensures said { (why : Reason) (p : ℕ) → no_two why [] 4 p (variables (mappings (codes w.now))) ≡ said_by why p result }
-    ensures place { (i : ℕ) → result ≡ Loaded.Twice i → i < length w.now }
+    ensures place { (i : ℕ) → result ≡ Err i → i < length w.now }
     ensures table { t.new ≡ table_after result t.old (mappings (codes w.now)) }
 {
-    let mut i: usize = 0;
-    while i < w.len() {
-        let v = field::pair_at(w, i);
+    for (k, (v, atom)) in codes::mapped(w).enumerate() {
         if table::is_mapped(t, v) {
             unload_witness(w, t);
-            return Loaded::Twice(i);
+            return Err(4 * k);
         }
-        table::set_image(t, v, field::pair_at(w, i + 2));
-        i += 4;
+        table::set_image(t, v, atom);
     }
-    Loaded::Once
+    Ok(())
 }

@@ -26,38 +26,35 @@ use Rattle.sweep.specs.declared.Propagation.{Propagation}
 use Rattle.sweep.specs.Swept.{state_of, Sweepable, Swept}
 use Rattle.propagation.specs.Propagated.{begun, Propagable, Propagated}
 
--- 1. The loop: n sweeps are left.
-pub record Running (f p : File) (ws t₀ t : List ℕ) (x : Propagation) (n : ℕ) : Type 0 where
+-- 1. The loop: k sweeps are made.
+pub record Running (f p : File) (ws t₀ t : List ℕ) (x : Propagation) (k : ℕ) : Type 0 where
   pub kept : Kept t₀ t
   pub beyond : (v : ℕ) → 4095 < v → value_at t v ≡ value_at t₀ v
   pub going : x.clash ≡ false
-  pub literals : x.literals + 16384 * n ≤ 67108864
-  pub sweeps : x.sweeps + n ≤ 4096
-  pub left : sweeps_to n (live f p ws) (state_of t x) ≡ sweeps_to 4096 (live f p ws) (state_of t₀ begun)
+  pub literals : x.literals ≤ 16384 * k
+  pub sweeps : x.sweeps ≤ k
+  pub left : sweeps_to (4096 - k) (live f p ws) (state_of t x) ≡ sweeps_to 4096 (live f p ws) (state_of t₀ begun)
 
 module _ {f p : File} {ws t₀ : List ℕ} where
-  pub running_start : Running f p ws t₀ t₀ begun 4096
+  pub running_start : Running f p ws t₀ t₀ begun 0
   running_start =
       record { kept = kept_refl t₀; beyond = λ v h. refl; going = refl; literals = omega arith; sweeps = omega arith; left = refl }
 
-  module _ {t : List ℕ} {x : Propagation} {n : ℕ} (run : Running f p ws t₀ t x n) where
+  module _ {t : List ℕ} {x : Propagation} {k : ℕ} (run : Running f p ws t₀ t x k) where
+    -- the state after as many sweeps as are left
+    left_by : (n : ℕ) → 4096 - k ≡ n → sweeps_to n (live f p ws) (state_of t x) ≡ sweeps_to 4096 (live f p ws) (state_of t₀ begun)
+    left_by n e = rw e at run.left
+
     -- no sweep is left
-    pub running_end : n ≤ 0 → Propagated f p ws t₀ t x
+    pub running_end : 4096 ≤ k → Propagated f p ws t₀ t x
     running_end h =
-        let z : 0 ≡ n = omega arith in
         record {
-          state = sym (sweeps_none F s) ∙ ap (λ (m : ℕ). sweeps_to m F s) z ∙ run.left;
+          state = sym (sweeps_none (live f p ws) (state_of t x)) ∙ left_by 0 (omega arith);
           kept = run.kept;
           beyond = run.beyond;
         }
-      where
-        F : Formula
-        F = live f p ws
 
-        s : State
-        s = state_of t x
-
-    module _ (h : 0 < n) (asked : Propagable f p ws t₀) where
+    module _ (h : k < 4096) (asked : Propagable f p ws t₀) where
       pub running_sweepable : Sweepable f p ws t x
       running_sweepable =
           let a = run.literals in
@@ -80,30 +77,27 @@ module _ {f p : File} {ws t₀ : List ℕ} where
         abbrev s : State
         s = state_of t x
 
-        one : sweeps_to (suc (n - 1)) F s ≡ sweeps_to 4096 F (state_of t₀ begun)
-        one = let e : suc (n - 1) ≡ n = omega arith in ap (λ (m : ℕ). sweeps_to m F s) e ∙ run.left
-
         clash_is : (sweep F s).clash ≡ r.clash
         clash_is = ap (λ (z : State). z.clash) (sym w.state)
 
         literals_are : (sweep F s).literals ≡ r.literals
         literals_are = ap (λ (z : State). z.literals) (sym w.state)
 
-        last : sweep F s ≡ sweeps_to (suc (n - 1)) F s → Propagated f p ws t₀ t' r
+        last : sweep F s ≡ sweeps_to (suc (4096 - (k + 1))) F s → Propagated f p ws t₀ t' r
         last e =
             record {
-              state = w.state ∙ e ∙ one;
+              state = w.state ∙ e ∙ left_by _ (omega arith);
               kept = kept_trans run.kept w.kept;
               beyond = λ v b. w.beyond v b ∙ run.beyond v b;
             }
 
         pub last_clash : r.clash ≡ true → Propagated f p ws t₀ t' r
-        last_clash e = last (sym (sweeps_clash (n - 1) F s (clash_is ∙ e)))
+        last_clash e = last (sym (sweeps_clash (4096 - (k + 1)) F s (clash_is ∙ e)))
 
         pub last_still : r.clash ≡ false → r.literals ≡ x.literals → Propagated f p ws t₀ t' r
-        last_still e q = last (sym (sweeps_last (n - 1) F s (clash_is ∙ e) (literals_are ∙ q)))
+        last_still e q = last (sym (sweeps_last (4096 - (k + 1)) F s (clash_is ∙ e) (literals_are ∙ q)))
 
-        pub running_next : r.clash ≡ false → r.literals ≢ x.literals → Running f p ws t₀ t' r (n - 1)
+        pub running_next : r.clash ≡ false → r.literals ≢ x.literals → Running f p ws t₀ t' r (k + 1)
         running_next e ne =
             let a = run.literals in
             let b = run.sweeps in
@@ -114,9 +108,9 @@ module _ {f p : File} {ws t₀ : List ℕ} where
               literals = omega (arith, w.literals, asked.numbers);
               sweeps = omega (arith, w.sweeps);
               left =
-                  ap (sweeps_to (n - 1) F) w.state
-                  ∙ sym (sweeps_next (n - 1) F s (clash_is ∙ e) (λ q. ne (sym literals_are ∙ q)))
-                  ∙ one;
+                  ap (sweeps_to (4096 - (k + 1)) F) w.state
+                  ∙ sym (sweeps_next (4096 - (k + 1)) F s (clash_is ∙ e) (λ q. ne (sym literals_are ∙ q)))
+                  ∙ left_by (suc (4096 - (k + 1))) (omega arith);
             }
 
 -- 2. No sweep touches the value of a variable that has no literal in the live clauses.

@@ -15,8 +15,7 @@ pub fn propagate<'a>(formula: &'a [u8], proof: &'a [u8], words: &[u32], t: &mut 
         sweeps: 0,
         clash: false,
     };
-    let mut left: usize = 4096;
-    while 0 < left {
+    for _ in 0..4096usize {
         let before = p.literals;
         p = updating::sweep_once(formula, proof, words, t, p);
         if p.clash {
@@ -25,7 +24,6 @@ pub fn propagate<'a>(formula: &'a [u8], proof: &'a [u8], words: &[u32], t: &mut 
         if p.literals == before {
             return p;
         }
-        left -= 1;
     }
     p
 }

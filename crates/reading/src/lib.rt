@@ -145,13 +145,13 @@ pub fn read_formula(formula: &[u8], words: &mut [u32], t: &mut [u8]) -> FormulaR
             first,
         } => match enter_clauses(formula, vars, clauses, first, words, t) {
             ClauseRead::Bad { reason, place } => {
-                memory::zero_words(words);
+                words.fill(0);
                 FormulaRead::Bad { reason, place }
             }
             ClauseRead::Next(c) => {
                 let at = c.at;
                 if at < formula.len() {
-                    memory::zero_words(words);
+                    words.fill(0);
                     return FormulaRead::Bad {
                         reason: Reason::FormulaEnd,
                         place: at,

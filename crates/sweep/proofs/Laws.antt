@@ -10,23 +10,22 @@ use native.Mathlib.Numerals.{add-one}
 use lib.Dec.{eqb}
 use lib.ListN.{length, get_or, drop}
 use Rattle.paper.specs.Atoms.{Clause, Formula, Live}
-use Rattle.paper.specs.Files.{File, codes, two}
+use Rattle.paper.specs.Files.{File, codes}
 use Rattle.paper.specs.Sweeps.{not_false, State, visit, visits, sweep}
 use Rattle.paper.proofs.Lists.{eqb_yes, eqb_no, eqb_same, eqb_other}
 use Rattle.paper.specs.Valid.{Codes}
 use Rattle.paper.proofs.Propagation.{clashing, setting, visit_none, visits_end, visits_clashed, visits_next, sweep_visits}
-use Rattle.paper.proofs.Scan.{true_by_value, not_true_by_value, not_false_none, visit_first_true, visit_first_alone, visit_second, codes_end, next_code, step_now, step_later, step_false, step_not_false}
+use Rattle.paper.proofs.Scan.{true_by_value, not_true_by_value, not_false_none, visit_first_true, visit_first_alone, visit_second, step_now, step_later, step_false, step_not_false}
 use Rattle.table.specs.Table.{values, value_at, set_value, Kept}
 use Rattle.table.proofs.Laws.{value_other}
 use Rattle.table.proofs.Values.{values_at, put_values}
 use Rattle.table.proofs.Kept.{kept_refl, kept_set_value}
-use Rattle.lookup.specs.Clause.{Entered, clause_bytes, Stands, onward, ClauseTable}
+use Rattle.lookup.specs.Clause.{Entered, clause_bytes, onward, ClauseTable}
 use Rattle.lookup.specs.Live.{live_from, live}
-use Rattle.lookup.proofs.Clause.{clause_even}
 use Rattle.lookup.proofs.Live.{live_next, live_end, live_start, live_in}
 use Rattle.lookup.proofs.Table.{onward_from, onward_within, live_onward}
 use Rattle.sweep.specs.declared.Propagation.{Propagation}
-use Rattle.sweep.specs.Swept.{Literals, all_false, Swept}
+use Rattle.sweep.specs.Swept.{all_false, Swept}
 
 -- the state of a propagation that has not clashed
 abbrev pub going : ℕ → List ℕ → ℕ → ℕ → State
@@ -55,92 +54,75 @@ none_left_of r e = sym (eqb_same (length r) 0 (ap length e))
 one_left_of : (l : ℕ) (r q : Clause) → r ≡ l ∷ q → false ≡ eqb (length r) 0
 one_left_of l r q e = sym (eqb_other (length r) 0 (omega (arith, ap length e)))
 
--- at the place i, the literals from the start a on that are passed are all false
-pub record Passed (vars : ℕ) (t c : List ℕ) (a i : ℕ) : Type 0 where
-  pub rest : Literals vars c i
-  pub same : not_false (values vars t) (codes (drop a c)) ≡ not_false (values vars t) (codes (drop i c))
+-- of the clause D the literals `left` are left, and those that are passed are all false
+pub record Passed (vars : ℕ) (t : List ℕ) (D left : Clause) : Type 0 where
+  pub range : Codes vars left
+  pub same : not_false (values vars t) D ≡ not_false (values vars t) left
 
-pub passed_start : {vars : ℕ} (t : List ℕ) {c : List ℕ} {a : ℕ} → Literals vars c a → Passed vars t c a a
-passed_start t s = record { rest = s; same = refl }
+pub passed_start : {vars : ℕ} (t : List ℕ) {D : Clause} → Codes vars D → Passed vars t D D
+passed_start t r = record { range = r; same = refl }
 
-module _ {vars : ℕ} {t c : List ℕ} {a i : ℕ} (s : Passed vars t c a i) where
-  pub both_bytes : i < length c → i + 1 < length c
-  both_bytes h = let w = s.rest.whole in omega arith
-
-  -- a literal l at the place, and the value x of its variable
-  module _ {l : ℕ} (h : i < length c) (el : l ≡ two c i) where
-    next : codes (drop i c) ≡ l ∷ codes (drop (i + 2) c)
-    next = next_code c i l (both_bytes h) el
-
+module _ {vars : ℕ} {t : List ℕ} {D left : Clause} (s : Passed vars t D left) where
+  -- a literal l is left, and others after it; the value of its variable is x
+  module _ {l : ℕ} {after : Clause} (step : left ≡ l ∷ after) where
     pub code_range : (2 ≤ l) × (l ≤ 2 * vars + 1)
-    code_range = step_now l next {P = λ k. (2 ≤ k) × (k ≤ 2 * vars + 1)} s.rest.range
+    code_range = step_now l step {P = λ k. (2 ≤ k) × (k ≤ 2 * vars + 1)} s.range
 
-    pub literals_next : Literals vars c (i + 2)
-    literals_next =
-        let w = s.rest.whole in
-        let b = both_bytes h in
-        record {
-          within = omega arith;
-          whole = omega arith;
-          range = step_later l next {P = λ k. (2 ≤ k) × (k ≤ 2 * vars + 1)} s.rest.range;
-        }
+    pub codes_after : Codes vars after
+    codes_after = step_later l step {P = λ k. (2 ≤ k) × (k ≤ 2 * vars + 1)} s.range
 
     module _ {x : ℕ} (ex : x ≡ value_at t (l / 2)) where
       value_of : x ≡ get_or (values vars t) (l / 2) 0
       value_of = let r = code_range in let b : l / 2 ≤ vars = omega arith in ex ∙ sym (values_at vars t b)
 
       -- set, and not true
-      pub passed_false : (1 ≤ x) × (x ≤ 2) → x ≢ l % 2 + 1 → Passed vars t c a (i + 2)
+      pub passed_false : (1 ≤ x) × (x ≤ 2) → x ≢ l % 2 + 1 → Passed vars t D after
       passed_false set ne =
-          let e : x + l % 2 ≡ 2 = omega arith in
-          record {
-            rest = literals_next;
-            same = s.same ∙ step_false l next (values vars t) x value_of e;
-          }
+          record { range = codes_after; same = s.same ∙ step_false l step (values vars t) x value_of (omega arith) }
 
-      first_left : x + l % 2 ≢ 2 → not_false (values vars t) (codes (drop a c)) ≡ l ∷ not_false (values vars t) (codes (drop (i + 2) c))
-      first_left ne = s.same ∙ step_not_false l next (values vars t) x value_of ne
+      first_left : x + l % 2 ≢ 2 → not_false (values vars t) D ≡ l ∷ not_false (values vars t) after
+      first_left ne = s.same ∙ step_not_false l step (values vars t) x value_of ne
 
-      pub unset_left : (x ≢ 1) × (x ≢ 2) → false ≡ all_false vars t c a
+      pub unset_left : (x ≢ 1) × (x ≢ 2) → false ≡ all_false vars t D
       unset_left ne = one_left_of l _ _ (first_left (omega arith))
 
-      pub true_left : x ≡ l % 2 + 1 → false ≡ all_false vars t c a
+      pub true_left : x ≡ l % 2 + 1 → false ≡ all_false vars t D
       true_left e = one_left_of l _ _ (first_left (omega arith))
 
-  -- no literal is left
-  module _ (h : length c ≤ i) where
-    none_left : not_false (values vars t) (codes (drop a c)) ≡ []
-    none_left = s.same ∙ not_false_none (values vars t) (codes (drop i c)) (codes_end c i (omega arith))
+  -- none is left
+  module _ (e : left ≡ []) where
+    none_left : not_false (values vars t) D ≡ []
+    none_left = s.same ∙ not_false_none (values vars t) left e
 
-    pub all_passed : true ≡ all_false vars t c a
+    pub all_passed : true ≡ all_false vars t D
     all_passed = none_left_of _ none_left
 
 -- the visit to the clause, by how the loop over all its literals is left
-module _ {vars : ℕ} {t c : List ℕ} {i : ℕ} (s : Passed vars t c 0 i) (literals sweeps : ℕ) where
+module _ {vars : ℕ} {t : List ℕ} {D left : Clause} (s : Passed vars t D left) (literals sweeps : ℕ) where
   abbrev state : State
   state = going vars t literals sweeps
 
   abbrev visiting : State
-  visiting = visit (not_false (values vars t) (codes c)) state
+  visiting = visit (not_false (values vars t) D) state
 
-  pub visit_none_left : length c ≤ i → visiting ≡ clashing state
-  visit_none_left h = ap (λ (r : Clause). visit r state) (none_left s h) ∙ visit_none state
+  pub visit_none_left : left ≡ [] → visiting ≡ clashing state
+  visit_none_left e = ap (λ (r : Clause). visit r state) (none_left s e) ∙ visit_none state
 
-  module _ {l x : ℕ} (h : i < length c) (el : l ≡ two c i) (ex : x ≡ value_at t (l / 2)) where
-    visit_first : x + l % 2 ≢ 2 → visiting ≡ visit (l ∷ not_false (values vars t) (codes (drop (i + 2) c))) state
-    visit_first ne = ap (λ (r : Clause). visit r state) (first_left s h el ex ne)
+  module _ {l x : ℕ} {after : Clause} (step : left ≡ l ∷ after) (ex : x ≡ value_at t (l / 2)) where
+    visit_first : x + l % 2 ≢ 2 → visiting ≡ visit (l ∷ not_false (values vars t) after) state
+    visit_first ne = ap (λ (r : Clause). visit r state) (first_left s step ex ne)
 
     pub visit_true_left : x ≡ l % 2 + 1 → visiting ≡ state
     visit_true_left e =
-        visit_first (omega arith) ∙ visit_first_true l _ state (true_by_value (values vars t) l (sym (value_of s h el ex) ∙ e))
+        visit_first (omega arith) ∙ visit_first_true l _ state (true_by_value (values vars t) l (sym (value_of s step ex) ∙ e))
 
     -- an unset literal, and what is found of those after it
-    module _ (ne : (x ≢ 1) × (x ≢ 2)) {b : Bool} (eb : b ≡ all_false vars t c (i + 2)) where
+    module _ (ne : (x ≢ 1) × (x ≢ 2)) {b : Bool} (eb : b ≡ all_false vars t after) where
       pub visit_one_left : b ≡ true → visiting ≡ setting l state
       visit_one_left e =
           let other : x ≢ l % 2 + 1 = omega arith in
           visit_first (omega arith)
-          ∙ visit_first_alone l _ state (not_true_by_value (values vars t) l (λ q. other (value_of s h el ex ∙ q))) (eqb_yes _ 0 (sym eb ∙ e))
+          ∙ visit_first_alone l _ state (not_true_by_value (values vars t) l (λ q. other (value_of s step ex ∙ q))) (eqb_yes _ 0 (sym eb ∙ e))
 
       pub visit_two_left : b ≡ false → visiting ≡ state
       visit_two_left e = visit_first (omega arith) ∙ visit_second l _ state (eqb_no _ 0 (sym eb ∙ e))
@@ -224,13 +206,8 @@ module _ {vars : ℕ} {f p : File} {ws t₀ : List ℕ} {x : Propagation} where
 
       -- the clause c is
       module _ (ne : Entered (get_or ws k 0)) {c : List ℕ} (ec : c ≡ clause_bytes f p (get_or ws k 0)) where
-        pub clause_literals : ((n : ℕ) (D : Clause) → Live (live f p ws) n D → Codes vars D) → Stands f p (get_or ws k 0) → Literals vars c 0
-        clause_literals range stands =
-            record {
-              within = omega arith;
-              whole = let e = clause_even f p (get_or ws k 0) stands in let q = ap (length {A = ℕ}) ec in omega arith;
-              range = range k (codes c) (live_in f p ws (record { within = h; entered = ne; clause = ap codes ec }));
-            }
+        pub clause_codes : ((n : ℕ) (D : Clause) → Live (live f p ws) n D → Codes vars D) → Codes vars (codes c)
+        clause_codes range = range k (codes c) (live_in f p ws (record { within = h; entered = ne; clause = ap codes ec }))
 
         abbrev now : State
         now = going vars t literals (suc x.sweeps)

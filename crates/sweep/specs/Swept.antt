@@ -1,7 +1,7 @@
 -- The state of a propagation as the code holds it, what one sweep asks of it, and what it leaves.
-use Rattle.std.specs.Prelude.{ℕ, ◌+◌, ◌-◌, ◌%◌, ◌<◌, ◌≤◌, ◌≡◌, Bool, false, List, eqb, length, drop}
+use Rattle.std.specs.Prelude.{ℕ, ◌+◌, ◌<◌, ◌≤◌, ◌≡◌, Bool, false, List, eqb, length}
 use Rattle.paper.specs.Atoms.{Clause, Live}
-use Rattle.paper.specs.Files.{File, codes}
+use Rattle.paper.specs.Files.{File}
 use Rattle.paper.specs.Sweeps.{not_false, State, sweep}
 use Rattle.paper.specs.Valid.{Codes}
 use Rattle.lookup.specs.Clause.{ClauseTable}
@@ -13,15 +13,9 @@ use Rattle.sweep.specs.declared.Propagation.{Propagation}
 abbrev pub state_of : List ℕ → Propagation → State
 state_of t x = record { values = values 4095 t; literals = x.literals; sweeps = x.sweeps; clash = x.clash }
 
--- what is left of a clause's bytes, from a place on: whole codes, of the variables 1 to vars
-pub record Literals (vars : ℕ) (c : List ℕ) (i : ℕ) : Type 0 where
-  pub within : i ≤ length c
-  pub whole : (length c - i) % 2 ≡ 0
-  pub range : Codes vars (codes (drop i c))
-
--- its literals are all false
-abbrev pub all_false : ℕ → List ℕ → List ℕ → ℕ → Bool
-all_false vars t c i = eqb (length (not_false (values vars t) (codes (drop i c)))) 0
+-- a clause's literals are all false
+abbrev pub all_false : ℕ → List ℕ → Clause → Bool
+all_false vars t D = eqb (length (not_false (values vars t) D)) 0
 
 -- Room for the variables 0 to 4,095, whose literals the live clauses hold; each clause stands in its file, and none is passed over;
 -- no clash yet; counters that can be counted on.

@@ -3,13 +3,9 @@
 #![tactic(auto)]
 
 ghost use Rattle.std.specs.Prelude.{◌≡◌, ◌≢◌, true, false, ◌<◌, ◌≤◌, length};
-ghost use Rattle.sweep.specs.Swept.{Literals, all_false, Sweepable, Swept};
-
-fn wide(x: u8) -> usize
-    ensures { (result ≡ x) × (result < 256) }
-{
-    x as usize
-}
+ghost use Rattle.paper.specs.Files.{codes};
+ghost use Rattle.paper.specs.Valid.{Codes};
+ghost use Rattle.sweep.specs.Swept.{all_false, Sweepable, Swept};
 
 // Whether a variable's value (0 to 3) is neither true (1) nor false (2), by one test.
 fn is_unset(value: usize) -> bool
@@ -19,22 +15,19 @@ fn is_unset(value: usize) -> bool
     (value + 1) / 2 % 2 == 0
 }
 
-// Whether the literals from a place on are all false.
-fn all_false(clause: &[u8], from: usize, t: &[u8]) -> bool
-    requires { Literals 4095 clause.now from × (8192 ≤ length t.now) }
-    ensures { result ≡ all_false 4095 t.now clause.now from }
+// Whether the literals that are left of a clause are all false.
+fn all_false(literals: codes::Codes, t: &[u8]) -> bool
+    requires { Codes 4095 (codes literals.bytes.now) × (8192 ≤ length t.now) }
+    ensures { result ≡ all_false 4095 t.now (codes literals.entry.bytes.now) }
 {
-    let mut i = from;
-    while i < clause.len() {
-        let code = field::pair_at(clause, i);
-        let value = wide(table::value(t, code / 2));
+    for code in literals {
+        let value = usize::from(table::value(t, code / 2));
         if is_unset(value) {
             return false;
         }
         if value == code % 2 + 1 {
             return false;
         }
-        i += 2;
     }
     true
 }
@@ -57,25 +50,23 @@ pub fn sweep<'a>(
     requires { Sweepable formula.now proof.now words.now t.old p }
     ensures { Swept formula.now proof.now words.now t.old p t.new result }
 {
-    let mut literals = p.literals;
+    let mut count = p.literals;
     let mut clash = false;
     let mut k: usize = 0;
+    // No `for`: the word of a number that is not live tells at which number to go on.
     'clauses: while k < words.len() {
         if lookup::LIVE <= words[k] {
-            let clause = lookup::clause_at(formula, proof, words, k);
-            let mut i: usize = 0;
+            let mut literals = codes::of(lookup::clause_at(formula, proof, words, k));
             'literals: loop {
-                if clause.len() <= i {
+                let Some(code) = literals.next() else {
                     clash = true;
                     break 'clauses;
-                }
-                let code = field::pair_at(clause, i);
-                let value = wide(table::value(t, code / 2));
-                i += 2;
+                };
+                let value = usize::from(table::value(t, code / 2));
                 if is_unset(value) {
-                    if all_false(clause, i, t) {
+                    if all_false(literals, t) {
                         table::make_true(t, code);
-                        literals += 1;
+                        count += 1;
                     }
                     break 'literals;
                 }
@@ -90,7 +81,7 @@ pub fn sweep<'a>(
     }
     let sweeps = p.sweeps + 1;
     Propagation {
-        literals,
+        literals: count,
         sweeps,
         clash,
     }

@@ -6,13 +6,8 @@ ghost use Rattle.std.specs.Prelude.{◌≡◌, suc, ◌/◌, ◌%◌, ◌<◌, �
 ghost use Rattle.paper.specs.Atoms.{complement};
 ghost use Rattle.table.specs.Table.{value_at, mapped_at, image_at, image_of, set_value, set_image, clear_image, clear_values};
 
-fn wide(x: u8) -> usize
-    ensures { (result ≡ x) × (result < 256) }
-{
-    x as usize
-}
-
 // The value of variable v.
+#[tactic(auto, unfolding(crate::specs::Table::value_at))]
 pub fn value(t: &[u8], v: usize) -> u8
     requires { (v < 4096) × (8192 ≤ length t.now) }
     ensures { result ≡ value_at t.now v }
@@ -20,6 +15,7 @@ pub fn value(t: &[u8], v: usize) -> u8
     t[v * 2] % 4
 }
 
+#[tactic(auto, unfolding(crate::specs::Table::set_value))]
 pub fn set_value(t: &mut [u8], v: usize, x: u8)
     requires { (v < 4096) × ((8192 ≤ length t.old) × (x < 3)) }
     ensures { t.new ≡ set_value t.old v x }
@@ -28,6 +24,7 @@ pub fn set_value(t: &mut [u8], v: usize, x: u8)
 }
 
 // The witness maps variable v.
+#[tactic(auto, unfolding(crate::specs::Table::mapped_at))]
 pub fn is_mapped(t: &[u8], v: usize) -> bool
     requires { (v < 4096) × (8192 ≤ length t.now) }
     ensures { result ≡ mapped_at t.now v }
@@ -36,26 +33,30 @@ pub fn is_mapped(t: &[u8], v: usize) -> bool
 }
 
 // The code of the image of variable v.
+#[tactic(auto, using(crate::proofs::Laws::image_mapped, crate::proofs::Laws::image_unmapped))]
 pub fn image(t: &[u8], v: usize) -> usize
     requires { (v < 4096) × (8192 ≤ length t.now) }
     ensures { (result ≡ image_at t.now v) × (result < 8192) }
 {
     if is_mapped(t, v) {
-        return wide(t[v * 2] / 8) * 256 + wide(t[v * 2 + 1]);
+        return usize::from(u16::from_be_bytes([t[v * 2] / 8, t[v * 2 + 1]]));
     }
     2 * v
 }
 
 // Maps variable v to a code.
+#[tactic(auto, unfolding(crate::specs::Table::set_image))]
 pub fn set_image(t: &mut [u8], v: usize, code: usize)
     requires { (v < 4096) × ((8192 ≤ length t.old) × (code < 8192)) }
     ensures { t.new ≡ set_image t.old v code }
 {
-    t[v * 2] = t[v * 2] % 4 + 4 + (code / 256 * 8) as u8;
-    t[v * 2 + 1] = (code % 256) as u8;
+    let [high, low] = (code as u16).to_be_bytes();
+    t[v * 2] = t[v * 2] % 4 + 4 + high * 8;
+    t[v * 2 + 1] = low;
 }
 
 // Variable v is its own image again.
+#[tactic(auto, unfolding(crate::specs::Table::clear_image))]
 pub fn clear_image(t: &mut [u8], v: usize)
     requires { (v < 4096) × (8192 ≤ length t.old) }
     ensures { t.new ≡ clear_image t.old v }
@@ -64,6 +65,7 @@ pub fn clear_image(t: &mut [u8], v: usize)
     t[v * 2 + 1] = 0;
 }
 
+#[tactic(auto, unfolding(paper::specs::Atoms::complement))]
 pub fn complement(code: usize) -> usize
     requires { code < 8192 }
     ensures { (result ≡ complement code) × (result < 8192) }
@@ -72,6 +74,7 @@ pub fn complement(code: usize) -> usize
 }
 
 // The image of a literal: the complement of its variable's image where the literal is a complement.
+#[tactic(auto, using(crate::proofs::Laws::image_even, crate::proofs::Laws::image_odd))]
 pub fn image_of(t: &[u8], code: usize) -> usize
     requires { (code < 8192) × (8192 ≤ length t.now) }
     ensures { (result ≡ image_of t.now code) × (result < 8192) }
@@ -88,7 +91,7 @@ pub fn is_true(t: &[u8], code: usize) -> bool
     requires { (code < 8192) × (8192 ≤ length t.now) }
     ensures { result ≡ eqb (value_at t.now (code / 2)) (suc (code % 2)) }
 {
-    wide(value(t, code / 2)) == code % 2 + 1
+    usize::from(value(t, code / 2)) == code % 2 + 1
 }
 
 pub fn make_true(t: &mut [u8], code: usize)
@@ -99,13 +102,12 @@ pub fn make_true(t: &mut [u8], code: usize)
 }
 
 // Unsets the variables 0 to vars.
+#[tactic(auto, unfolding(crate::specs::Table::clear_to, crate::specs::Table::clear_values))]
 pub fn clear_values(t: &mut [u8], vars: usize)
     requires { (vars < 4096) × (8192 ≤ length t.old) }
     ensures { t.new ≡ clear_values vars t.old }
 {
-    let mut v: usize = 0;
-    while v <= vars {
+    for v in 0..=vars {
         set_value(t, v, 0);
-        v += 1;
     }
 }

@@ -1,14 +1,14 @@
 -- `answers::answer` meets its contract.
 -- Assumes nothing.
-use Rattle.answers.proofs.Files.{cleared, zeros, as_long}
+use Rattle.answers.proofs.Files.{cleared}
 use Rattle.answers.proofs.answer.Goals as goal
 
 pub judge_files-verdict-requires : goal.judge_files-verdict-requires
-judge_files-verdict-requires c =
-    let p = c.requires in
-    cleared _ _ _ _ p.0 p.1 c.zero_words.ensures c.zero_bytes.ensures
+judge_files-verdict-requires c = cleared _ _ _ _ c.requires.0 c.requires.1 c.clear.ensures.words c.clear.ensures.bytes
 
-pub returns : goal.returns
-returns c =
-    let p = c.requires in
-    let k = c.judge_files-verdict.auto in record { answer = c.judge_files-verdict.ensures; words = zeros 16384 _ _ (as_long 16384 _ _ _ p.0 k.words c.zero_words.ensures) c.zero_words-2.ensures; bytes = zeros 8192 _ _ (as_long 8192 _ _ _ p.1 k.t c.zero_bytes.ensures) c.zero_bytes-2.ensures }
+-- the slices keep their lengths, and are zeroed again
+pub returns-clause-words : goal.returns-clause-words
+returns-clause-words c = rw (c.judge_files-verdict.auto.words, c.clear.auto.words, c.requires.0) at c.clear-2.ensures.words
+
+pub returns-clause-bytes : goal.returns-clause-bytes
+returns-clause-bytes c = rw (c.judge_files-verdict.auto.t, c.clear.auto.t, c.requires.1) at c.clear-2.ensures.bytes

@@ -1,12 +1,8 @@
 -- `loading::unset_clause` meets its contract. Assumes nothing.
-use Prim.Native.Nat.{◌≤◌, ◌-◌}
-use lib.ListN.{length}
+use Rattle.paper.specs.Files.{codes}
 use Rattle.loading.specs.Loading.{unset_clause}
 use Rattle.loading.proofs.Turns.{Going}
 use Rattle.loading.proofs.unset_clause.Given as goal
 
-abbrev pub invariant-loop-i : goal.invariant-loop-i
-invariant-loop-i l = (l.i ≤ length l.clause) × Going unset_clause l.clause l.initial.t l.t l.i
-
-abbrev pub decreases-loop-i : goal.decreases-loop-i
-decreases-loop-i l = length l.clause - l.i
+abbrev pub invariant-loop-code : goal.invariant-loop-code
+invariant-loop-code l = Going unset_clause (codes l.clause) l.fn.t l.t (codes l.code-iterator.bytes.now)

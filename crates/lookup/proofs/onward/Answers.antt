@@ -1,15 +1,15 @@
 -- `onward` is the number at which to go on.
-use Rattle.lookup.proofs.Clause.{onward_beyond, onward_live, onward_here, onward_later}
+use mathlib.Core.Path.{◌∙◌}
+use native.Mathlib.Omega.{arith}
+use Rattle.lookup.proofs.Clause.{onward_live, onward_further}
 use Rattle.lookup.proofs.onward.Goals as goal
 
-pub returns-then-words-n : goal.returns-then-words-n
-returns-then-words-n c = onward_beyond _ _ c.if-words-n.true
+pub returns-in-Some : goal.returns-in-Some
+returns-in-Some c = c.max.ensures ∙ onward_further _ _ _ (c.in-Some.ensures.lookup.4 (omega arith) 0) c.if-w-lt-LIVE.true
 
-pub returns-then-w-ge1048576 : goal.returns-then-w-ge1048576
-returns-then-w-ge1048576 c = onward_live _ _ _ c.wide-w.ensures.0 c.if-w-ge1048576.true
+pub returns-in_default : goal.returns-in_default
+returns-in_default c = onward_live _ _ _ (c.in-Some.ensures.lookup.4 (omega arith) 0) c.if-w-lt-LIVE.false
 
-pub returns-then-w-n : goal.returns-then-w-n
-returns-then-w-n c = onward_here _ _ _ c.wide-w.ensures.0 c.if-w-ge1048576.false c.if-w-n.true
-
-pub returns : goal.returns
-returns c = onward_later _ _ _ c.wide-w.ensures.0 c.if-w-ge1048576.false c.if-w-n.false
+pub returns-in_default-2 : goal.returns-in_default-2
+returns-in_default-2 c =
+    omega (arith, onward_further c.args.words.now c.args.n 0 (rw c.in_default.is at (c.get.ensures.lookup.4 (omega arith) 0)) (omega arith))

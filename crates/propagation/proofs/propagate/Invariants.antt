@@ -3,8 +3,5 @@
 use Rattle.propagation.proofs.Laws.{Running}
 use Rattle.propagation.proofs.propagate.Given as goal
 
-abbrev pub invariant-loop-left : goal.invariant-loop-left
-invariant-loop-left l = Running l.formula l.proof l.words l.initial.t l.t l.p l.left
-
-abbrev pub decreases-loop-left : goal.decreases-loop-left
-decreases-loop-left l = l.left
+abbrev pub invariant-loop : goal.invariant-loop
+invariant-loop l = Running l.formula l.proof l.words l.initial.t l.t l.p l.counter

@@ -17,7 +17,7 @@ returns-then-at-formula c =
     let q = clauses_said_as _ _ _ _ _ _ _ _ c.enter_clauses.ensures.said c.in-Next.is in record {
       said = record {
         read = bytes_follow _ _ _ _ h _ _ _ q c.if-at-formula.true;
-        words = zeroed _ _ _ c.requires.1.1.0 c.enter_clauses.auto.words c.zero_words-then-at-formula.ensures;
+        words = zeroed _ _ _ c.requires.1.1.0 c.enter_clauses.auto.words (c.fill-then-at-formula.ensures.after (λ y h. h));
       };
       table = c.enter_clauses.ensures.table;
     }
@@ -38,7 +38,7 @@ returns-in-Bad-enter_clauses c =
     let q = clauses_said_as _ _ _ _ _ _ _ _ c.enter_clauses.ensures.said c.in-Bad-enter_clauses.is in record {
       said = record {
         read = clauses_refused _ _ _ _ h _ _ q;
-        words = zeroed _ _ _ c.requires.1.1.0 c.enter_clauses.auto.words c.zero_words.ensures;
+        words = zeroed _ _ _ c.requires.1.1.0 c.enter_clauses.auto.words (c.fill.ensures.after (λ y h. h));
       };
       table = c.enter_clauses.ensures.table;
     }

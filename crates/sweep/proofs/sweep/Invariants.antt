@@ -3,18 +3,17 @@
 use Prim.Native.Nat.{◌-◌, ◌≤◌}
 use mathlib.Core.Path.{◌≡◌}
 use lib.ListN.{length}
+use Rattle.paper.specs.Files.{codes}
 use Rattle.sweep.proofs.Laws.{Passed, Held}
 use Rattle.sweep.proofs.sweep.Given as goal
 
 abbrev pub invariant-literals : goal.invariant-literals
 invariant-literals l =
-    (8192 ≤ length l.t) × (l.t ≡ l.initial.t) × (l.literals ≡ l.initial.literals) × (l.clash ≡ l.initial.clash) × Passed 4095 l.initial.t l.clause 0 l.i
-
-abbrev pub decreases-literals : goal.decreases-literals
-decreases-literals l = length l.clause - l.i
+    (8192 ≤ length l.t) × (l.t ≡ l.initial.t) × (l.count ≡ l.initial.count) × (l.clash ≡ l.initial.clash)
+    × Passed 4095 l.initial.t (codes l.initial.literals.bytes.now) (codes l.literals.bytes.now)
 
 abbrev pub invariant-clauses : goal.invariant-clauses
-invariant-clauses l = Held 4095 l.formula l.proof l.words l.initial.t l.p l.k l.t l.literals l.clash
+invariant-clauses l = Held 4095 l.formula l.proof l.words l.initial.t l.p l.k l.t l.count l.clash
 
 abbrev pub decreases-clauses : goal.decreases-clauses
 decreases-clauses l = length l.words - l.k
