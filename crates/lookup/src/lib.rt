@@ -11,6 +11,15 @@ ghost use Rattle.lookup.specs.Live.{EmptyLive};
 // From here on a word is that of a live clause.
 pub const LIVE: u32 = 1048576;
 
+// The two files and the words of the clause numbers in use: the live clauses.
+#[derive(Clone, Copy)]
+pub struct Clauses<'a, 'w> {
+    pub formula: &'a [u8],
+    pub proof: &'a [u8],
+    pub words: &'w [u32],
+    pub ghost stands: { ClauseTable formula.now proof.now (length words.now) words.now },
+}
+
 // The payload of the field whose tag is at a place. That it lies in the file was tested when its clause was entered.
 fn payload_at(s: &[u8], at: usize) -> &[u8]
     requires { at + 3 + two s.now (at + 1) ≤ length s.now }
@@ -92,12 +101,11 @@ pub fn remove(words: &mut [u32], n: usize)
 }
 
 // Whether an empty clause is live. A payload of fewer than two bytes holds no code.
-pub fn has_empty<'a>(formula: &'a [u8], proof: &'a [u8], words: &[u32]) -> bool
-    requires { ClauseTable formula.now proof.now (length words.now) words.now }
-    ensures { EmptyLive formula.now proof.now words.now result }
+pub fn has_empty(live: Clauses) -> bool
+    ensures { EmptyLive live.entry.formula.now live.entry.proof.now live.entry.words.now result }
 {
-    for n in 0..words.len() {
-        if LIVE <= words[n] && clause_at(formula, proof, words, n).len() < 2 {
+    for n in 0..live.words.len() {
+        if LIVE <= live.words[n] && clause_at(live.formula, live.proof, live.words, n).len() < 2 {
             return true;
         }
     }
