@@ -1,5 +1,3 @@
-pub mod Parts
-pub mod Range
+pub mod Codes
 pub mod Marks
 pub mod Check
-pub mod Once

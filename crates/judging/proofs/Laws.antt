@@ -69,7 +69,7 @@ module _ (p : File) (e : Extent) (vars : ℕ) (r : ClauseCheck)
 pub checkable : {f p : File} {at vars next : ℕ} {words t : List ℕ} {x : Fields} → Checkable f p at x vars next words t → clauses.Checkable p x.clause vars
 checkable {p = p} {at = at} {x = x} c =
     let l = lie p at x c.fields in
-    record { within = l.clause_within; whole = l.clause_even; limit = c.ready.variables }
+    record { within = l.clause_within; limit = c.ready.variables }
 
 -- 2. A step that is refused as it is read.
 module _ {f p : File} {at vars next : ℕ} {words t : List ℕ} {x : Fields} (c : Checkable f p at x vars next words t) where

@@ -1,31 +1,20 @@
 -- `clauses::clear_marks` meets its contract. Assumes nothing.
-use mathlib.Core.Path.{ap, ◌∙◌}
+use mathlib.Core.Path.{refl}
 use native.Mathlib.Omega.{arith}
-use Rattle.clauses.specs.Check.{variables, unmarked}
-use Rattle.clauses.proofs.Parts.{part_payload, walk_inside}
-use Rattle.clauses.proofs.Marks.{small_now, clearing_start, clearing_turn, clearing_end}
+use Rattle.paper.proofs.Scan.{step_now}
+use Rattle.clauses.proofs.Marks.{clearing_turn, clearing_end}
 use Rattle.clauses.proofs.clear_marks.Goals as goal
 
-pub loop-i-init : goal.loop-i-init
-loop-i-init c =
-    clearing_start _ c.args.e _ c.requires.0
-
-pub pair_at-requires : goal.pair_at-requires
-pair_at-requires c = walk_inside c.loop-i.invariant.walk c.loop-i-test.true
+pub loop-code-init : goal.loop-code-init
+loop-code-init c = rw (c.into_iter-code-iterator.ensures.into_iter_gives, c.of-code-items.ensures) record { small = c.requires.0; rest = refl }
 
 pub set_value-requires : goal.set_value-requires
 set_value-requires c =
-    let l = c.loop-i in
-    let s = small_now l.invariant.walk l.invariant.small _ c.loop-i-test.true c.pair_at.ensures.0 in
-    let k = l.invariant.long in
-    let b = c.requires.1 in
-    (omega arith, (omega arith, omega arith))
+    let small = step_now c.in-Some.code c.in-Some.ensures.steps c.loop-code.invariant.small in
+    (omega arith, (omega (arith, c.loop-code.auto.t), omega arith))
 
-pub loop-i-preserved : goal.loop-i-preserved
-loop-i-preserved c =
-    clearing_turn c.loop-i.invariant _ c.loop-i-test.true c.pair_at.ensures.0 _ c.set_value.ensures
+pub loop-code-preserved : goal.loop-code-preserved
+loop-code-preserved c = clearing_turn c.loop-code.invariant _ _ c.in-Some.ensures.steps _ c.set_value.ensures
 
 pub returns : goal.returns
-returns c =
-    let a = c.args in
-    clearing_end c.loop-i.invariant c.loop-i-test.false ∙ ap (λ C. unmarked a.t.now (variables C)) (part_payload _ a.e)
+returns c = clearing_end c.loop-code.invariant c.in-None.ensures.steps.0

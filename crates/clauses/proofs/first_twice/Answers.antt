@@ -1,53 +1,37 @@
 -- `clauses::first_twice` meets its contract. Assumes nothing.
 use mathlib.Core.Path.{sym, ◌∙◌}
+use mathlib.Core.Logic.{inl}
 use native.Mathlib.Omega.{arith}
-use Rattle.clauses.proofs.Parts.{walk_inside}
-use Rattle.clauses.proofs.Marks.{small_now, marking_start, marking_turn, marking_found, marking_end}
+use Rattle.paper.proofs.Scan.{step_now}
+use Rattle.clauses.proofs.Codes.{codes_fit}
+use Rattle.clauses.proofs.Marks.{marking_start, marking_found, marking_turn, marking_end}
 use Rattle.clauses.proofs.first_twice.Goals as goal
 
-pub loop-i-init : goal.loop-i-init
-loop-i-init c =
-    marking_start _ c.args.e _ c.requires.0 c.requires.1.0 c.requires.1.1
-
-pub pair_at-v-requires : goal.pair_at-v-requires
-pair_at-v-requires c = walk_inside c.loop-i.invariant.walk c.loop-i-test.true
+pub loop-k-init : goal.loop-k-init
+loop-k-init c =
+    rw (c.into_iter-k-iterator.ensures.into_iter_gives, c.enumerate-k-items.ensures.source, c.enumerate-k-items.ensures.count, c.of.ensures)
+    ((tt, tt, inl (omega (arith, codes_fit c.args.part.now))), tt, marking_start _ _ c.requires.0 c.requires.1.1)
 
 pub value-requires : goal.value-requires
 value-requires c =
-    let l = c.loop-i in
-    let s = small_now l.invariant.walk l.invariant.small _ c.loop-i-test.true c.pair_at-v.ensures.0 in
-    let k = l.invariant.room in
-    (omega arith, omega arith)
+    let small = step_now c.in-Some.code c.in-Some.ensures.steps.0 c.loop-k.invariant.2.small in
+    (omega arith, omega (arith, c.loop-k.auto.t))
 
 pub returns-then-value-ne0 : goal.returns-then-value-ne0
 returns-then-value-ne0 c =
-    marking_found
-    _ c.args.e
-    c.requires.0
-    c.loop-i.invariant
-    _
-    c.loop-i-test.true
-    c.pair_at-v.ensures.0
-    (λ z. c.if-value-ne0.true (c.value.ensures ∙ z))
+    let steps = c.in-Some.ensures.steps in
+    rw steps.1 (marking_found c.loop-k.invariant.2 _ _ steps.0 (λ z. c.if-value-ne0.true (c.value.ensures ∙ z)))
 
 pub set_value-requires : goal.set_value-requires
 set_value-requires c =
-    let l = c.loop-i in
-    let s = small_now l.invariant.walk l.invariant.small _ c.loop-i-test.true c.pair_at-v.ensures.0 in
-    let k = l.invariant.room in
-    (omega arith, (omega arith, omega arith))
+    let small = step_now c.in-Some.code c.in-Some.ensures.steps.0 c.loop-k.invariant.2.small in
+    (omega arith, (omega (arith, c.loop-k.auto.t), omega arith))
 
-pub loop-i-preserved : goal.loop-i-preserved
-loop-i-preserved c =
-    marking_turn
-    c.loop-i.invariant
-    _
-    c.loop-i-test.true
-    c.pair_at-v.ensures.0
-    (sym c.value.ensures ∙ c.if-value-ne0.false)
-    _
-    c.set_value.ensures
+pub loop-k-preserved : goal.loop-k-preserved
+loop-k-preserved c =
+    let steps = c.in-Some.ensures.steps in
+    let further = rw (← steps.2) at (marking_turn c.loop-k.invariant.2 _ _ steps.0 (omega (arith, c.loop-k.auto.t)) (sym c.value.ensures ∙ c.if-value-ne0.false) _ c.set_value.ensures) in
+    ((tt, tt, inl (omega (arith, further.counted, codes_fit c.args.part.now))), tt, further)
 
 pub returns : goal.returns
-returns c =
-    marking_end _ c.args.e c.requires.0 c.loop-i.invariant c.loop-i-test.false
+returns c = marking_end c.loop-k.invariant.2 c.in-None.ensures.steps.0.0
