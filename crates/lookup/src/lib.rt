@@ -21,6 +21,7 @@ pub struct Clauses<'a, 'w> {
 }
 
 // The payload of the field whose tag is at a place. That it lies in the file was tested when its clause was entered.
+#[tactic(auto, unfolding(paper::specs::Files::payload, field::specs::Field::extent_at))]
 fn payload_at(s: &[u8], at: usize) -> &[u8]
     requires { at + 3 + two s.now (at + 1) ≤ length s.now }
     ensures { result.now ≡ payload s.now (extent_at s.now at) }
@@ -31,6 +32,7 @@ fn payload_at(s: &[u8], at: usize) -> &[u8]
 }
 
 // The clause of number n, as it stands in the formula or in the proof.
+#[tactic(auto, using(crate::proofs::Clause::clause_formula, crate::proofs::Clause::clause_proof))]
 pub fn clause_at<'a>(formula: &'a [u8], proof: &'a [u8], words: &[u32], n: usize) -> &'a [u8]
     requires { (n < length words.now) × (Entered (get_or words.now n 0) × Stands formula.now proof.now (get_or words.now n 0)) }
     ensures { result.now ≡ clause_bytes formula.now proof.now (get_or words.now n 0) }

@@ -10,6 +10,7 @@ ghost use Rattle.sweep.specs.Swept.{all_false, Sweepable, Swept};
 use lookup::Clauses;
 
 // Whether a variable's value (0 to 3) is neither true (1) nor false (2), by one test.
+#[tactic(auto, using(crate::proofs::Laws::one_test))]
 fn is_unset(value: usize) -> bool
     requires { value < 4 }
     ensures { (result ≡ true → (value ≢ 1) × (value ≢ 2)) × (result ≡ false → (1 ≤ value) × (value ≤ 2)) }
