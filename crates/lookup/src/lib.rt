@@ -1,5 +1,6 @@
 // The clause table by number: one word for each clause number. The word of a live clause is 1,048,576 (it stands in the formula)
 // or 2,097,152 (in the proof) plus the offset of the clause's tag in that file. Any word below tells at which number to go on.
+// Words and no map: the memory is fixed, and the caller lends it.
 #![tactic(auto)]
 
 ghost use Rattle.std.specs.Prelude.{◌≡◌, ◌+◌, ◌≤◌, ◌<◌, length, get_or, set};
@@ -45,7 +46,8 @@ pub fn clause_at<'a>(formula: &'a [u8], proof: &'a [u8], words: &[u32], n: usize
     payload_at(proof, at)
 }
 
-// The word of the clause whose tag is at a place of the formula.
+// The word of the clause whose tag is at a place of the formula. Not one function with the file's number as a parameter: each is a line,
+// and the definitions have both names.
 pub fn formula_word(at: usize) -> u32
     requires { at < 1048576 }
     ensures { result ≡ formula_word at }

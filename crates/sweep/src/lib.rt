@@ -59,6 +59,7 @@ pub fn sweep(live: Clauses, t: &mut [u8], p: Propagation) -> Propagation
                 live.words,
                 k,
             ));
+            // No `for`: that no literal is left is the clash, which leaves both loops.
             'literals: loop {
                 let Some(code) = literals.next() else {
                     clash = true;
