@@ -2,48 +2,35 @@
 // lent with the witness's images in it and no value, and comes back as it was.
 #![tactic(auto)]
 
-ghost use Rattle.std.specs.Prelude.{◌≡◌, ◌≤◌, length, drop};
+ghost use Rattle.std.specs.Prelude.{◌≡◌};
 ghost use Rattle.paper.specs.Atoms.{Witness};
 ghost use Rattle.paper.specs.Files.{codes};
 ghost use Rattle.paper.specs.Conditions.{RUP, Passes};
 ghost use Rattle.paper.specs.Valid.{Codes, Listed};
-ghost use Rattle.lookup.specs.Live.{live};
 ghost use Rattle.loading.specs.Loading.{Inward, Images, Decides};
-ghost use Rattle.conditions.specs.Asked.{Asked, Finds, first_is};
+ghost use Rattle.conditions.specs.Asked.{live_in, Asked, Finds};
 
 use loading::Assumed;
+use lookup::Clauses;
 
 // Whether the clause is RUP over the live clauses.
-pub fn is_rup<'a>(
-    formula: &'a [u8],
-    proof: &'a [u8],
-    words: &[u32],
-    clause: &[u8],
-    vars: usize,
-    t: &mut [u8],
-) -> bool
-    requires { Asked formula.now proof.now words.now (codes clause.now) vars t.old }
-    ensures answer { Decides result (RUP (live formula.now proof.now words.now) (codes clause.now)) }
+#[tactic(auto, using(crate::proofs::Answers::asked_gives))]
+pub fn is_rup(live: Clauses, clause: &[u8], vars: usize, t: &mut [u8]) -> bool
+    requires { Asked live.formula.now live.proof.now live.words.now (codes clause.now) vars t.old }
+    ensures answer { Decides result (RUP (live_in live.entry) (codes clause.now)) }
     ensures table { t.new ≡ t.old }
 {
     loading::assume_clause(clause, t);
-    let state = propagation::propagate(formula, proof, words, t);
+    let state = propagation::propagate(live, t);
     table::clear_values(t, vars);
     state.clash
 }
 
 // Whether the clause d passes, for the new clause and the witness whose images the table holds.
-pub fn passes<'a>(
-    formula: &'a [u8],
-    proof: &'a [u8],
-    words: &[u32],
-    clause: &[u8],
-    d: &[u8],
-    vars: usize,
-    t: &mut [u8],
-) -> bool
-    requires { Asked formula.now proof.now words.now (codes clause.now) vars t.old × (Inward vars t.old × Codes vars (codes d.now)) }
-    ensures answer { (s : Witness) → Images t.old s → Decides result (Passes (live formula.now proof.now words.now) (codes clause.now) s (codes d.now)) }
+#[tactic(auto, using(crate::proofs::Answers::asked_gives))]
+pub fn passes(live: Clauses, clause: &[u8], d: &[u8], vars: usize, t: &mut [u8]) -> bool
+    requires { Asked live.formula.now live.proof.now live.words.now (codes clause.now) vars t.old × (Inward vars t.old × Codes vars (codes d.now)) }
+    ensures answer { (s : Witness) → Images t.old s → Decides result (Passes (live_in live.entry) (codes clause.now) s (codes d.now)) }
     ensures table { t.new ≡ t.old }
 {
     loading::assume_clause(clause, t);
@@ -54,57 +41,38 @@ pub fn passes<'a>(
             true
         }
         Assumed::Open => {
-            let union = propagation::propagate(formula, proof, words, t);
+            let union = propagation::propagate(live, t);
             table::clear_values(t, vars); // before the next clause is tested
             union.clash
         }
     }
 }
 
-// Whether the list of numbers goes on with n at a place.
-fn is_next(numbers: &[u8], at: usize, n: usize) -> bool
-    requires { at ≤ length numbers.now }
-    ensures { result ≡ first_is n (codes (drop at numbers.now)) }
-{
-    if numbers.len() - at < 2 {
-        return false;
-    }
-    field::pair_at(numbers, at) == n
-}
-
-// The lowest number of a clause that does not pass, if there is one.
-#[derive(Clone, Copy)]
-pub enum Failing {
-    Nothing,
-    At(usize),
-}
-
-// The numbers are tested as they rise, and MODULO is read along with them.
-pub fn lowest_failing<'a>(
-    formula: &'a [u8],
-    proof: &'a [u8],
-    words: &[u32],
+// The lowest number of a clause that does not pass, if there is one. The numbers are tested as they rise, and MODULO is read along
+// with them.
+pub fn lowest_failing(
+    live: Clauses,
     clause: &[u8],
     modulo: &[u8],
     vars: usize,
     t: &mut [u8],
-) -> Failing
-    requires { Asked formula.now proof.now words.now (codes clause.now) vars t.old × (Inward vars t.old × Listed (live formula.now proof.now words.now) 0 (codes modulo.now)) }
-    ensures answer { (s : Witness) → Images t.old s → Finds (live formula.now proof.now words.now) (codes clause.now) s (codes modulo.now) result }
+) -> Option<usize>
+    requires { Asked live.formula.now live.proof.now live.words.now (codes clause.now) vars t.old × (Inward vars t.old × Listed (live_in live) 0 (codes modulo.now)) }
+    ensures answer { (s : Witness) → Images t.old s → Finds (live_in live.entry) (codes clause.now) s (codes modulo.now) result }
     ensures table { t.new ≡ t.old }
 {
-    let mut n: usize = 0;
-    let mut at: usize = 0;
-    while n < words.len() {
-        if is_next(modulo, at, n) {
-            at += 2;
-        } else if lookup::LIVE <= words[n] {
-            let d = lookup::clause_at(formula, proof, words, n);
-            if !passes(formula, proof, words, clause, d, vars, t) {
-                return Failing::At(n);
-            }
+    let mut named = codes::of(modulo).peekable();
+    for n in 0..live.words.len() {
+        if named.next_if_eq(&n).is_some() {
+            continue;
         }
-        n += 1;
+        if live.words[n] < lookup::LIVE {
+            continue;
+        }
+        let d = lookup::clause_at(live.formula, live.proof, live.words, n);
+        if !passes(live, clause, d, vars, t) {
+            return Some(n);
+        }
     }
-    Failing::Nothing
+    None
 }

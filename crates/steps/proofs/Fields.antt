@@ -1,61 +1,42 @@
 -- The fields of a step: what the code's answer says of the paper's reading, and where they lie.
 -- Assumes nothing.
 use Prim.Native.Nat.{ℕ, ◌+◌, ◌%◌, ◌≤◌, ◌<◌}
-use mathlib.Core.Path.{◌≡◌, refl, sym, ap, ◌∙◌, subst}
+use mathlib.Core.Path.{◌≡◌, refl, sym, ap, ◌∙◌, ap₂, subst}
 use mathlib.Core.Logic.{◌≢◌}
 use mathlib.Core.Bool.{Bool, true, false, true≢false}
 use native.Mathlib.Omega.{arith}
-use lib.Dec.{eqb, leb}
+use lib.Dec.{eqb}
 use lib.ListN.{length, get_or}
+use native.Mathlib.Decide.{ℕ_discrete}
+use Rattle.std.specs.Prelude.{Result, Ok, Err, MatchResult}
+use Rattle.std.specs.Result.{result_or}
+use Rattle.std.proofs.lemmas.Result.{MatchResult-at_ok, MatchResult-at_err}
+use Rattle.paper.specs.declared.Reason.{Reason}
 use Rattle.paper.specs.declared.Reason.TheVariants.{ProofField}
 use Rattle.paper.specs.declared.Extent.{Extent}
 use Rattle.paper.specs.declared.Fields.{Fields}
 use Rattle.paper.specs.Files.{File, Read, ok, bad, ◌>>=◌, ◌>>◌, need, past, field, even, fours}
 use Rattle.paper.specs.Refusals.{between, field_if, read_fields}
-use Rattle.paper.proofs.Lists.{eqb_yes, eqb_no, eqb_same, eqb_other, leb_within, leb_beyond}
+use Rattle.paper.proofs.Lists.{eqb_yes, eqb_no, eqb_same, eqb_other}
 use Rattle.paper.proofs.Reading.{Then, then_bind, then_seq, need_then, between_yes}
-use Rattle.field.specs.declared.Cursor.{Cursor}
-use Rattle.field.specs.declared.Expected.{Expected}
-use Rattle.field.specs.declared.Expected.TheVariants.{Found, Wrong}
-use Rattle.field.specs.Field.{expected_of}
-use Rattle.field.proofs.Laws.{found_in, wrong, Stands, stands}
-use Rattle.paper.proofs.Reasons.{fields_reason}
-use Rattle.steps.specs.declared.FieldsRead.TheVariants.{Whole, Bad}
-use Rattle.steps.specs.Steps.{fields_of}
+use Rattle.field.specs.declared.Found.{Found}
+use Rattle.field.specs.declared.Fault.{Fault}
+use Rattle.field.specs.Field.{found_of}
+use Rattle.field.proofs.Laws.{found_in, found_next, not_found, Stands, stands}
+use Rattle.steps.specs.declared.Kind.{Kind}
+use Rattle.steps.specs.declared.Kind.TheVariants.{Rup, Sr, Wsr, Delete}
+use Rattle.steps.specs.declared.UnknownTag.{UnknownTag}
+use Rattle.steps.specs.Steps.{kind_of, tag_of, IsRead}
 
--- 1. The code's tests: of a range, and of a field that the step's tag may ask for.
-pub below : (low high x : ℕ) → x < low → false ≡ between low high x
-unfolding between
-below low high x h = rw (leb_beyond low x h)
-
-pub not_below : (low high x : ℕ) → low ≤ x → leb x high ≡ between low high x
-unfolding between
-not_below low high x h = rw (leb_within low x h)
-
+-- 1. A field that the step's tag may ask for.
 module _ (b : Bool) (tag : ℕ) (allowed : ℕ → Bool) (f : File) (at : ℕ) where
-  pub asked : b ≡ true → (r : Expected) → r ≡ expected_of (field ProofField tag allowed f at) → r ≡ expected_of (field_if b tag allowed f at)
+  pub asked : b ≡ true → (r : Result Found Fault) → r ≡ found_of (field ProofField tag allowed f at) → r ≡ found_of (field_if b tag allowed f at)
   unfolding field_if
   asked e r q = rw e q
 
-  pub not_asked : b ≡ false → Found (record { start = at; size = 0 }) (record { at = at }) ≡ expected_of (field_if b tag allowed f at)
-  unfolding field_if expected_of past
-  not_asked e = let z : at ≡ at + 0 = omega arith in rw e (ap (λ (p : ℕ). Found (record { start = at; size = 0 }) (record { at = p })) z)
-
--- the same test, at the same place
-pub same_test : (b d : Bool) (tag : ℕ) (allowed : ℕ → Bool) (f : File) (at p : ℕ) (r : Expected) → b ≡ d → at ≡ p
-    → r ≡ expected_of (field_if b tag allowed f at) → r ≡ expected_of (field_if d tag allowed f p)
-same_test b d tag allowed f at p r e h q = rw (← e) (rw (← h) q)
-
--- found, or refused at its place
-pub found_if : (b : Bool) (tag : ℕ) (allowed : ℕ → Bool) (f : File) (at : ℕ) (e : Extent) (n : Cursor)
-    → Found e n ≡ expected_of (field_if b tag allowed f at) → field_if b tag allowed f at ≡ ok e
-found_if b tag allowed f at e n q = found_in e n (field_if b tag allowed f at) q
-
-pub wrong_if : (b : Bool) (tag : ℕ) (allowed : ℕ → Bool) (f : File) (at : ℕ) → Wrong ≡ expected_of (field_if b tag allowed f at)
-    → field_if b tag allowed f at ≡ bad ProofField at
-unfolding field_if expected_of
-wrong_if true tag allowed f at q = wrong ProofField tag allowed f at q
-wrong_if false tag allowed f at q = let z : ◌≡◌ {A = ℕ} 0 1 = cc in absurd (omega arith)
+  pub not_asked : b ≡ false → Ok (record { extent = record { start = at; size = 0 }; next = record { at = at } }) ≡ found_of (field_if b tag allowed f at)
+  unfolding field_if found_of past
+  not_asked e = let z : at ≡ at + 0 = omega arith in rw e (ap (λ (p : ℕ). Ok (record { extent = record { start = at; size = 0 }; next = record { at = p } })) z)
 
 -- 2. Where the fields lie.
 even_yes : (n : ℕ) → even n ≡ true → n % 2 ≡ 0
@@ -108,43 +89,42 @@ pub record Lie (f : File) (at : ℕ) (x : Fields) : Type 0 where
 
 -- 3. The paper's reading of a step's fields, by what stands at each place. c, w and n are the fields found one after the other.
 module _ (f : File) (at : ℕ) where
-  pub tag_refused : between 0x11 0x14 (get_or f at 0) ≡ false → read_fields f at ≡ bad ProofField at
+  tag_refused : between 0x11 0x14 (get_or f at 0) ≡ false → read_fields f at ≡ bad ProofField at
   unfolding read_fields need ◌>>◌ ◌>>=◌
   tag_refused t = rw (t, read_fields)
 
   module _ (t : between 0x11 0x14 (get_or f at 0) ≡ true) where
-    pub clause_refused : field ProofField (get_or f at 0) even f at ≡ bad ProofField at → read_fields f at ≡ bad ProofField at
+    clause_refused : (r : Reason) (p : ℕ) → field ProofField (get_or f at 0) even f at ≡ bad r p → read_fields f at ≡ bad r p
     unfolding read_fields need ◌>>◌ ◌>>=◌
-    clause_refused q = rw (t, q, read_fields)
+    clause_refused r p q = rw (t, q, read_fields)
 
     module _ (c : Extent) (hc : field ProofField (get_or f at 0) even f at ≡ ok c) where
-      pub clause_lies : Stands (get_or f at 0) even f at c
+      clause_lies : Stands (get_or f at 0) even f at c
       clause_lies = stands ProofField (get_or f at 0) even f at c hc
 
-      pub witness_refused : field_if (between 0x12 0x13 (get_or f at 0)) 0x21 fours f (past c) ≡ bad ProofField (past c)
-          → read_fields f at ≡ bad ProofField (past c)
+      witness_refused : (r : Reason) (p : ℕ) → field_if (between 0x12 0x13 (get_or f at 0)) 0x21 fours f (past c) ≡ bad r p → read_fields f at ≡ bad r p
       unfolding read_fields need ◌>>◌ ◌>>=◌
-      witness_refused q = rw (t, hc, q, read_fields)
+      witness_refused r p q = rw (t, hc, q, read_fields)
 
       module _ (w : Extent) (hw : field_if (between 0x12 0x13 (get_or f at 0)) 0x21 fours f (past c) ≡ ok w) where
-        pub witness_lies : LiesIf (between 0x12 0x13 (get_or f at 0)) fours f (past c) w
+        witness_lies : LiesIf (between 0x12 0x13 (get_or f at 0)) fours f (past c) w
         unfolding past fours
         witness_lies = lies_if (between 0x12 0x13 (get_or f at 0)) 0x21 fours f (past c) w refl clause_lies.within hw
 
-        pub modulo_refused : field_if (eqb (get_or f at 0) 0x13) 0x22 even f (past w) ≡ bad ProofField (past w) → read_fields f at ≡ bad ProofField (past w)
+        modulo_refused : (r : Reason) (p : ℕ) → field_if (eqb (get_or f at 0) 0x13) 0x22 even f (past w) ≡ bad r p → read_fields f at ≡ bad r p
         unfolding read_fields need ◌>>◌ ◌>>=◌
-        modulo_refused q = rw (t, hc, hw, q, read_fields)
+        modulo_refused r p q = rw (t, hc, hw, q, read_fields)
 
         module _ (n : Extent) (hn : field_if (eqb (get_or f at 0) 0x13) 0x22 even f (past w) ≡ ok n) where
-          pub modulo_lies : LiesIf (eqb (get_or f at 0) 0x13) even f (past w) n
+          modulo_lies : LiesIf (eqb (get_or f at 0) 0x13) even f (past w) n
           unfolding past even
           modulo_lies = lies_if (eqb (get_or f at 0) 0x13) 0x22 even f (past w) n refl witness_lies.within hn
 
-          pub delete_read : get_or f at 0 ≡ 0x14 → read_fields f at ≡ ok (record { clause = n; witness = n; numbers = c; next = past c })
+          delete_read : get_or f at 0 ≡ 0x14 → read_fields f at ≡ ok (record { clause = n; witness = n; numbers = c; next = past c })
           unfolding read_fields need ◌>>◌ ◌>>=◌
           delete_read e = rw (t, hc, hw, hn, eqb_same (get_or f at 0) 0x14 e, read_fields)
 
-          pub clause_read : get_or f at 0 ≢ 0x14 → read_fields f at ≡ ok (record { clause = c; witness = w; numbers = n; next = past n })
+          clause_read : get_or f at 0 ≢ 0x14 → read_fields f at ≡ ok (record { clause = c; witness = w; numbers = n; next = past n })
           unfolding read_fields need ◌>>◌ ◌>>=◌
           clause_read ne = rw (t, hc, hw, hn, eqb_other (get_or f at 0) 0x14 ne, read_fields)
 
@@ -217,42 +197,93 @@ then_lie f at =
 pub lie : (f : File) (at : ℕ) (x : Fields) → read_fields f at ≡ ok x → Lie f at x
 lie f at x q = subst (Then (Lie f at)) q (then_lie f at)
 
--- 4. The code's answer from the paper's reading, and what a caller concludes from it.
-module _ (f : File) (at : ℕ) where
-  -- past is the cursor that was handed back, n the place that the paper's reading gives
-  pub as_whole : (c w e : Extent) (past : Cursor) (n : ℕ) → past.at ≡ n → read_fields f at ≡ ok (record { clause = c; witness = w; numbers = e; next = n })
-      → Whole (record { clause = c; witness = w; numbers = e; next = past.at }) past ≡ fields_of (read_fields f at)
-  unfolding fields_of
-  as_whole c w e past n h q = rw (q, fields_of) (ap (λ (p : ℕ). Whole (record { clause = c; witness = w; numbers = e; next = p }) (record { at = p })) h)
+-- 4. The code's answer, from what it read one after the other. The tag is the byte at the step's place.
+kind_again : (k : Kind) → kind_of (tag_of k) ≡ Ok k
+kind_again Rup = refl
+kind_again Sr = refl
+kind_again Wsr = refl
+kind_again Delete = refl
 
-  pub as_bad : (p n : ℕ) → p ≡ n → read_fields f at ≡ bad ProofField n → Bad p ≡ fields_of (read_fields f at)
-  unfolding fields_of
-  as_bad p n h q = rw h (rw q)
+pub tag_once : (k k' : Kind) → tag_of k ≡ tag_of k' → k ≡ k'
+tag_once k k' e = let q : ◌≡◌ {A = Result Kind UnknownTag} (Ok k) (Ok k') = sym (kind_again k) ∙ ap kind_of e ∙ kind_again k' in cc
 
-  pub whole : (x : Fields) (next : Cursor) → Whole x next ≡ fields_of (read_fields f at) → read_fields f at ≡ ok x
-  unfolding fields_of
-  whole x next q = go (read_fields f at) q
-    where
-      go : (m : Read Fields) → Whole x next ≡ fields_of m → m ≡ ok x
-      go (ok y) q = cc
-      go (bad r p) q = let z : ◌≡◌ {A = ℕ} 0 1 = cc in absurd (omega arith)
+kind_within : (k : Kind) → between 0x11 0x14 (tag_of k) ≡ true
+unfolding between
+kind_within Rup = refl
+kind_within Sr = refl
+kind_within Wsr = refl
+kind_within Delete = refl
 
-  -- the cursor that is handed on stands where the paper's reading goes on
-  pub whole_next : (x : Fields) (next : Cursor) → Whole x next ≡ fields_of (read_fields f at) → next ≡ record { at = x.next }
-  unfolding fields_of
-  whole_next x next q = go (read_fields f at) q
-    where
-      go : (m : Read Fields) → Whole x next ≡ fields_of m → next ≡ record { at = x.next }
-      go (ok y) q =
-          let u : x ≡ y = cc in
-          let v : next ≡ record { at = y.next } = cc in
-          v ∙ ap (λ (z : Fields). record { at = z.next }) (sym u)
-      go (bad r p) q = let z : ◌≡◌ {A = ℕ} 0 1 = cc in absurd (omega arith)
+out : (tag : ℕ) → tag ≢ 0x11 → tag ≢ 0x12 → tag ≢ 0x13 → tag ≢ 0x14 → between 0x11 0x14 tag ≡ false
+out tag h k l m = go (between 0x11 0x14 tag) refl
+  where
+    go : (b : Bool) → between 0x11 0x14 tag ≡ b → b ≡ false
+    go false e = refl
+    go true e = let r = between_yes 0x11 0x14 tag e in absurd (omega (arith, r.0, r.1))
 
-  pub refused : (p : ℕ) → Bad p ≡ fields_of (read_fields f at) → read_fields f at ≡ bad ProofField p
-  unfolding fields_of
-  refused p q = go (read_fields f at) refl q
-    where
-      go : (m : Read Fields) → read_fields f at ≡ m → Bad p ≡ fields_of m → m ≡ bad ProofField p
-      go (ok y) e q = let z : ◌≡◌ {A = ℕ} 0 1 = cc in absurd (omega arith)
-      go (bad r s) e q = let o = fields_reason f at r s e in cc
+kind_decides : (tag : ℕ) (x : Fault) → MatchResult (result_or (kind_of tag) (Err x)) (λ k. tag_of k ≡ tag) (λ e. (e ≡ x) × (between 0x11 0x14 tag ≡ false))
+kind_decides tag x = go (ℕ_discrete tag 0x11) (ℕ_discrete tag 0x12) (ℕ_discrete tag 0x13) (ℕ_discrete tag 0x14)
+  where
+    go : Dec (tag ≡ 0x11) → Dec (tag ≡ 0x12) → Dec (tag ≡ 0x13) → Dec (tag ≡ 0x14)
+        → MatchResult (result_or (kind_of tag) (Err x)) (λ k. tag_of k ≡ tag) (λ e. (e ≡ x) × (between 0x11 0x14 tag ≡ false))
+    go (yes e) b c d = rw e refl
+    go (no h) (yes e) c d = rw e refl
+    go (no h) (no k) (yes e) d = rw e refl
+    go (no h) (no k) (no l) (yes e) = rw e refl
+    go (no h) (no k) (no l) (no m) =
+        rw (eqb_other tag 0x11 h, eqb_other tag 0x12 k, eqb_other tag 0x13 l, eqb_other tag 0x14 m, kind_of) (refl, out tag h k l m)
+
+-- the kind as it was read: from its tag, or else x
+module _ (f : File) (at tag : ℕ) (seen : tag ≡ get_or f at 0) (r : Result Kind UnknownTag) (told : r ≡ kind_of tag) (x : Fault) where
+  pub unknown : (e : Fault) → Err e ≡ result_or r (Err x) → (e ≡ x) × (read_fields f at ≡ bad ProofField at)
+  unknown e q =
+      let d = MatchResult-at_err _ _ e (sym (rw told at q)) (kind_decides tag x) in
+      (d.0, tag_refused f at (ap (between 0x11 0x14) (sym seen) ∙ d.1))
+
+  module _ (k : Kind) (known : Ok k ≡ result_or r (Err x)) where
+    pub tagged : tag_of k ≡ get_or f at 0
+    tagged = MatchResult-at_ok _ _ k (sym (rw told at known)) (kind_decides tag x) ∙ seen
+
+    in_range : between 0x11 0x14 (get_or f at 0) ≡ true
+    in_range = ap (between 0x11 0x14) (sym tagged) ∙ kind_within k
+
+    pub no_clause : (b : Fault) → Err b ≡ found_of (field ProofField tag even f at) → read_fields f at ≡ bad b.reason b.place
+    no_clause b q = clause_refused f at in_range _ _ (subst (λ (t : ℕ). field ProofField t even f at ≡ bad b.reason b.place) seen (not_found b _ q))
+
+    module _ (c : Found) (qc : Ok c ≡ found_of (field ProofField tag even f at)) (asked : Bool) (ea : asked ≡ between 0x12 0x13 (tag_of k)) where
+      clause : field ProofField (get_or f at 0) even f at ≡ ok c.extent
+      clause = subst (λ (t : ℕ). field ProofField t even f at ≡ ok c.extent) seen (found_in c _ qc)
+
+      witness_there : field_if asked 0x21 fours f c.next.at ≡ field_if (between 0x12 0x13 (get_or f at 0)) 0x21 fours f (past c.extent)
+      witness_there = ap₂ (λ (b : Bool) (p : ℕ). field_if b 0x21 fours f p) (ea ∙ ap (between 0x12 0x13) tagged) (found_next c _ qc)
+
+      pub no_witness : (b : Fault) → Err b ≡ found_of (field_if asked 0x21 fours f c.next.at) → read_fields f at ≡ bad b.reason b.place
+      no_witness b q = witness_refused f at in_range _ clause _ _ (sym witness_there ∙ not_found b _ q)
+
+      module _ (w : Found) (qw : Ok w ≡ found_of (field_if asked 0x21 fours f c.next.at)) (more : Bool) (em : more ≡ eqb (tag_of k) 0x13) where
+        witness : field_if (between 0x12 0x13 (get_or f at 0)) 0x21 fours f (past c.extent) ≡ ok w.extent
+        witness = sym witness_there ∙ found_in w _ qw
+
+        modulo_there : field_if more 0x22 even f w.next.at ≡ field_if (eqb (get_or f at 0) 0x13) 0x22 even f (past w.extent)
+        modulo_there = ap₂ (λ (b : Bool) (p : ℕ). field_if b 0x22 even f p) (em ∙ ap (λ (t : ℕ). eqb t 0x13) tagged) (found_next w _ qw)
+
+        pub no_modulo : (b : Fault) → Err b ≡ found_of (field_if more 0x22 even f w.next.at) → read_fields f at ≡ bad b.reason b.place
+        no_modulo b q = modulo_refused f at in_range _ clause _ witness _ _ (sym modulo_there ∙ not_found b _ q)
+
+        module _ (n : Found) (qn : Ok n ≡ found_of (field_if more 0x22 even f w.next.at)) where
+          modulo : field_if (eqb (get_or f at 0) 0x13) 0x22 even f (past w.extent) ≡ ok n.extent
+          modulo = sym modulo_there ∙ found_in n _ qn
+
+          pub deletion : k ≡ Delete → IsRead f at (record {
+            kind = k;
+            fields = record { clause = n.extent; witness = n.extent; numbers = c.extent; next = c.next.at };
+            next = c.next;
+          })
+          deletion e = record { tag = tagged; fields = rw (found_next c _ qc) (delete_read f at in_range _ clause _ witness _ modulo (sym tagged ∙ ap tag_of e)); next = refl }
+
+          pub addition : k ≢ Delete → IsRead f at (record {
+            kind = k;
+            fields = record { clause = c.extent; witness = w.extent; numbers = n.extent; next = n.next.at };
+            next = n.next;
+          })
+          addition ne = record { tag = tagged; fields = rw (found_next n _ qn) (clause_read f at in_range _ clause _ witness _ modulo (λ e. ne (tag_once k Delete (tagged ∙ e)))); next = refl }

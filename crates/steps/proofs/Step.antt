@@ -1,7 +1,7 @@
 -- The paper's reading of a step, part by part: the first part that refuses, refuses the step.
 -- Assumes nothing.
 use Prim.Native.Nat.{ℕ, suc, ◌≤◌, ◌<◌}
-use mathlib.Core.Path.{◌≡◌, ap, ◌∙◌}
+use mathlib.Core.Path.{◌≡◌}
 use mathlib.Core.Logic.{◌≢◌}
 use mathlib.Core.List.{List, [], map}
 use native.Mathlib.Omega.{arith}
@@ -11,22 +11,9 @@ use Rattle.paper.specs.declared.Reason.TheVariants.{ProofCode, ProofTwice, Numbe
 use Rattle.paper.specs.declared.Extent.{Extent}
 use Rattle.paper.specs.declared.Fields.{Fields}
 use Rattle.paper.specs.Atoms.{Clause, Formula, Witness}
-use Rattle.paper.specs.Files.{File, Read, ok, bad, ◌>>=◌, ◌>>◌, need, payload, codes, mappings, delete_step}
+use Rattle.paper.specs.Files.{File, ok, bad, ◌>>=◌, ◌>>◌, need, payload, codes, mappings, delete_step}
 use Rattle.paper.specs.Refusals.{no_two, check_clause, read_fields, check_mappings, check_numbers, to_step, read_step}
 use Rattle.paper.proofs.Lists.{eqb_same, eqb_other, leb_within, leb_beyond}
-use Rattle.steps.specs.declared.Checked.{Checked}
-use Rattle.steps.specs.declared.Checked.TheVariants.{Fine, At}
-use Rattle.steps.specs.Steps.{checked_by}
-
--- what a caller concludes from the code's answer to a check
-module _ (why : Reason) (m : Read (Unit {0})) (r : Checked) (q : m ≡ checked_by why r) where
-  pub checked_fine : r ≡ Fine → m ≡ ok tt
-  unfolding checked_by
-  checked_fine e = q ∙ ap (checked_by why) e
-
-  pub checked_at : (p : ℕ) → r ≡ At p → m ≡ bad why p
-  unfolding checked_by
-  checked_at p e = q ∙ ap (checked_by why) e
 
 -- a field that the step does not have holds no code and no mapping
 pub no_codes : (f : File) (x : Extent) → x.size ≡ 0 → codes (payload f x) ≡ []

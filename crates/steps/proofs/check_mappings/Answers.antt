@@ -6,7 +6,7 @@ use lib.ListN.{length}
 use Rattle.std.proofs.Common.{rules}
 use Rattle.paper.specs.Files.{payload}
 use Rattle.paper.specs.Refusals.{between, check_mappings}
-use Rattle.steps.specs.Steps.{checked_by}
+use Rattle.field.specs.Field.{result_of}
 use Rattle.steps.proofs.Mappings.{variable_refused, atom_refused, mapping_fine, room_mappings}
 use Rattle.steps.proofs.check_mappings.Goals as goal
 use Rattle.steps.proofs.check_mappings.Goals.{After-contains}
@@ -24,16 +24,18 @@ loop-k-init c =
     (rw b (omega (arith, room_mappings _ _ c.requires.0)), rw (e, b) refl)
 
 pub returns-then-not-contains : goal.returns-then-not-contains
-unfolding checked_by
+unfolding result_of
 returns-then-not-contains c =
     let s = c.in-Some.ensures.steps in
-    rw s.1 (sym c.loop-k.invariant.1 ∙ variable_refused _ _ _ _ s.0 (sym (range (goal.at.returns-then-not-contains c).After-contains) ∙ c.if-not-contains.true))
+    let t = range (goal.at.returns-then-not-contains c).After-contains in
+    rw s.1 (sym (ap result_of (sym c.loop-k.invariant.1 ∙ variable_refused _ _ _ _ s.0 (sym t ∙ c.if-not-contains.true))))
 
 pub returns-then-vars-atom : goal.returns-then-vars-atom
-unfolding checked_by
+unfolding result_of
 returns-then-vars-atom c =
     let s = c.in-Some.ensures.steps in
-    rw s.1 (sym c.loop-k.invariant.1 ∙ atom_refused _ _ _ _ s.0 (sym (range (goal.at.returns-then-vars-atom c).After-contains) ∙ c.if-not-contains.false) c.if-vars-atom.true)
+    let t = range (goal.at.returns-then-vars-atom c).After-contains in
+    rw s.1 (sym (ap result_of (sym c.loop-k.invariant.1 ∙ atom_refused _ _ _ _ s.0 (sym t ∙ c.if-not-contains.false) c.if-vars-atom.true)))
 
 pub loop-k-preserved : goal.loop-k-preserved
 loop-k-preserved c =
@@ -43,5 +45,5 @@ loop-k-preserved c =
     (omega (arith, ap length s.0, s.2), rw q (sym e ∙ c.loop-k.invariant.1))
 
 pub returns : goal.returns
-unfolding checked_by check_mappings
-returns c = sym c.loop-k.invariant.1 ∙ rw c.in-None.ensures.steps.0.0 refl
+unfolding result_of check_mappings
+returns c = sym (ap result_of (sym c.loop-k.invariant.1 ∙ ap (check_mappings _ _) c.in-None.ensures.steps.0.0))

@@ -5,7 +5,7 @@ use native.Mathlib.Omega.{arith}
 use lib.ListN.{length}
 use Rattle.paper.specs.Files.{payload}
 use Rattle.paper.specs.Refusals.{check_numbers}
-use Rattle.steps.specs.Steps.{checked_by}
+use Rattle.field.specs.Field.{result_of}
 use Rattle.steps.proofs.Mappings.{room_codes}
 use Rattle.steps.proofs.Numbers.{not_above, not_live, too_high, number_fine}
 use Rattle.steps.proofs.check_numbers.Goals as goal
@@ -16,17 +16,17 @@ loop-k-init c =
     let z : c.into_iter-k-iterator.result.count ≡ 0 = cc in
     let b : c.into_iter-k-iterator.result.iter.bytes.now ≡ payload c.args.proof.now c.args.e = cc in
     let e : c.args.e.start + 2 * c.into_iter-k-iterator.result.count ≡ c.args.e.start = omega arith in
-    (rw b (omega (arith, room_codes _ _ c.requires.0)), λ f. rw (e, b) refl)
+    (rw b (omega (arith, room_codes _ _ c.requires)), λ f. rw (e, b) refl)
 
 pub returns-then-n-last : goal.returns-then-n-last
-unfolding checked_by
+unfolding result_of
 returns-then-n-last c = λ f.
     let s = c.in-Some.ensures.steps in
-    rw s.1 (sym (c.loop-k.invariant.1 f) ∙ elim c.then-n-last.branch [
+    rw s.1 (sym (ap result_of (sym (c.loop-k.invariant.1 f) ∙ elim c.then-n-last.branch [
       | then-n-last-via-then-n-last w ↦ not_above _ _ _ _ _ s.0 f w.if-n-last.true
       | then-n-last-via-else-n-last+then-words-n w ↦ too_high _ _ _ _ _ s.0 f w.if-words-n.true
       | then-n-last-via-else-n-last+else-words-n+then-words-n-lt-LIVE w ↦ not_live _ _ _ _ _ s.0 f w.if-words-n-lt-LIVE.true
-    ])
+    ])))
 
 pub loop-k-preserved : goal.loop-k-preserved
 loop-k-preserved c =
@@ -37,5 +37,5 @@ loop-k-preserved c =
     )
 
 pub returns : goal.returns
-unfolding checked_by check_numbers
-returns c = λ f. sym (c.loop-k.invariant.1 f) ∙ rw c.in-None.ensures.steps.0.0 refl
+unfolding result_of check_numbers
+returns c = λ f. sym (ap result_of (sym (c.loop-k.invariant.1 f) ∙ ap (check_numbers _ _ _) c.in-None.ensures.steps.0.0))

@@ -9,12 +9,12 @@ use Rattle.steps.proofs.remove_numbers.Goals as goal
 pub loop-n-init : goal.loop-n-init
 loop-n-init c =
     let b : c.into_iter-n-iterator.result.iter.bytes.now ≡ payload c.args.proof.now c.args.e = cc in
-    rw b (c.requires.1.1.1, refl)
+    rw b (c.requires.1.1, refl)
 
 pub remove-requires : goal.remove-requires
 remove-requires c =
     let h = below_last _ (rw c.in-Some.ensures.steps at c.loop-n.invariant.0) in
-    (omega (arith, h, c.loop-n.auto.words), omega (arith, h, c.requires.1.1.0))
+    (omega (arith, h, c.loop-n.auto.words), omega (arith, h, c.requires.1.0))
 
 pub loop-n-preserved : goal.loop-n-preserved
 loop-n-preserved c =
