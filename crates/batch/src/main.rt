@@ -4,9 +4,9 @@
 
 ghost use Rattle.std.specs.Prelude.{◌+◌, ◌<◌, ◌^◌};
 
-use paper::Verdict;
+use paper::{Reason, Verdict};
 use std::io;
-use std::io::{Read, Write};
+use std::io::Read;
 
 // What the work memory holds before each call.
 const WORD: u32 = 0xA5A5A5A5;
@@ -37,23 +37,20 @@ fn zeroed<T: PartialEq + Drop>(memory: &[T], zeros: usize, zero: T, filled: T) -
 
 // Whether the work memory is left as the paper says.
 fn memory_right(v: Verdict, words: &[u32], bytes: &[u8]) -> bool {
-    let (w, b) = if paper::as_numbers(v).reason == 1 {
-        (0, 0)
-    } else {
-        (16384, 8192)
+    let (w, b) = match v {
+        Verdict::Refused(refusal) if refusal.reason == Reason::WorkShort => (0, 0),
+        _ => (16384, 8192),
     };
     zeroed(words, w, 0, WORD) && zeroed(bytes, b, 0, BYTE)
 }
 
 // Prints the line of a verdict, with a word more where the work memory is not left as the paper says.
 fn tell(rt: &HostRuntime, v: Verdict, right: bool) -> io::Result<()> {
-    let printed = line::line_of(v);
-    let text = &printed.bytes[..printed.size];
+    let text = line::line_of(v);
     if right {
-        return rt.stdout().write_all(text);
+        return print!(rt; "{text}");
     }
-    rt.stdout().write_all(text.trim_ascii_end())?;
-    rt.stdout().write_all(b" memory\n")
+    println!(rt; "{} memory", text.trim_end())
 }
 
 // Answers a case, with the work memory that it lends full of rubbish.
@@ -84,13 +81,13 @@ fn load(rt: &HostRuntime, buf: &mut [u8]) -> io::Result<bool> {
 
 // A case for which there is no room, with n bytes of files, which are forgotten.
 fn unfit(rt: &HostRuntime, n: usize) -> io::Result<bool> {
-    rt.stdout().write_all(b"unfit\n")?;
+    println!(rt; "unfit")?;
     io::copy(&mut rt.stdin().take(n as u64), &mut io::sink())?;
     Ok(true)
 }
 
 fn cut_short(rt: &HostRuntime) -> io::Result<bool> {
-    rt.stdout().write_all(b"cut short\n")?;
+    println!(rt; "cut short")?;
     Ok(false)
 }
 

@@ -4,7 +4,6 @@
 use std::env::FillError;
 use std::fs::File;
 use std::io;
-use std::io::Write;
 use std::rt::Env;
 
 // The bytes of the file that argument i names, read to the start of buf: none where it cannot be read, or has more than buf has room for.
@@ -23,21 +22,14 @@ fn is_there(rt: &HostRuntime, i: usize) -> bool {
     !matches!(rt.arg(i, &mut [0u8; 1]), Err(FillError::NotPresent))
 }
 
-fn unread(rt: &HostRuntime) -> io::Result<()> {
-    rt.stdout().write_all(b"unread\n")
-}
-
 fn main(rt: HostRuntime) -> io::Result<()> {
     if !is_there(&rt, 2) || is_there(&rt, 3) {
-        return unread(&rt);
+        return rt.println("unread");
     }
     let mut formula = [0u8; 65536];
     let mut proof = [0u8; 65536];
     match (load(&rt, 1, &mut formula), load(&rt, 2, &mut proof)) {
-        (Some(f), Some(p)) => {
-            let printed = cli::answer(f, p);
-            rt.stdout().write_all(&printed.bytes[..printed.size])
-        }
-        _ => unread(&rt),
+        (Some(f), Some(p)) => rt.print(cli::answer(f, p)),
+        _ => rt.println("unread"),
     }
 }

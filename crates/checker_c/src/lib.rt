@@ -1,20 +1,9 @@
 // The checker for C and Rust: the answer goes into four numbers that the caller lends.
 #![tactic(auto)]
 
-ghost use Rattle.std.specs.Prelude.{◌≡◌, length};
-ghost use Rattle.checker_c.specs.Told.{listed, Told};
+ghost use Rattle.checker_c.specs.Told.{Told};
 
 use paper::Numbers;
-
-fn put(out: &mut [u64], n: Numbers)
-    requires { length out.old ≡ 4 }
-    ensures { out.new ≡ listed n }
-{
-    out[0] = n.verdict as u64;
-    out[1] = n.reason as u64;
-    out[2] = n.step as u64;
-    out[3] = n.place as u64;
-}
 
 // The verdict (0 refuted, 1 held, 2 refused), the reason (0 unless refused), the step, and the place (0 unless refused).
 #[unsafe(no_mangle)]
@@ -27,8 +16,11 @@ pub extern "C" fn boxcarousel_check<'a>(
 )
     ensures { Told formula.now proof.now words.old words.new bytes.old bytes.new out.new }
 {
-    put(
-        out,
-        paper::as_numbers(checker::check(formula, proof, words, bytes)),
-    );
+    let n = Numbers::from(checker::check(formula, proof, words, bytes));
+    *out = [
+        u64::from(n.verdict),
+        u64::from(n.reason),
+        n.step as u64,
+        n.place as u64,
+    ];
 }

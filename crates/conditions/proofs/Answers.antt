@@ -45,7 +45,7 @@ module _ {f p : File} {ws : List ℕ} {C : Clause} {vars : ℕ} {t : List ℕ} (
   module _ {u : List ℕ} (w : Within vars t u) where
     pub within_propagable : Propagable f p ws u
     within_propagable =
-        propagable vars f p ws u asked.ready.small asked.valid asked.numbers (omega (arith, w.kept.long, asked.ready.long)) asked.clauses
+        propagable vars f p ws u asked.ready.small asked.valid asked.numbers (omega (arith, w.kept.long, asked.ready.long))
 
     pub propagated_cleared : {u' : List ℕ} {r : Propagation} → Propagated f p ws u u' r → clear_values vars u' ≡ t
     propagated_cleared x =

@@ -14,13 +14,13 @@ use Rattle.conditions.proofs.passes.Reads as passes
 use Rattle.conditions.proofs.lowest_failing.Reads as lowest_failing
 
 pub is_rup_once : (κs : _) (a : _) (r r' : Bool) (s s' : _) → is_rup.Post κs a r s → is_rup.Post κs a r' s'
-    → (r ≡ r') × (s.1.1.1.1.1.0.now ≡ s'.1.1.1.1.1.0.now)
+    → (r ≡ r') × (s.1.1.1.0.now ≡ s'.1.1.1.0.now)
 is_rup_once κs a r r' s s' p q = (decides_once r r' p.0 q.0, p.1 ∙ sym q.1)
 
 pub passes_once : (κs : _) (a : _) (r r' : Bool) (s s' : _) → passes.Post κs a r s → passes.Post κs a r' s'
-    → (r ≡ r') × (s.1.1.1.1.1.1.0.now ≡ s'.1.1.1.1.1.1.0.now)
+    → (r ≡ r') × (s.1.1.1.1.0.now ≡ s'.1.1.1.1.0.now)
 passes_once κs a r r' s s' p q =
-    let w = some_witness a.1.1.1.1.1.1.0.now in
+    let w = some_witness a.1.1.1.1.0.now in
     (decides_once r r' (p.0 w.0 w.1) (q.0 w.0 w.1), p.1 ∙ sym q.1)
 
 -- a search finds one thing
@@ -31,7 +31,7 @@ finds_once F C s modulo (Some n) None p q = absurd (p.fails (q n p.clause p.live
 finds_once F C s modulo (Some n) (Some m) p q = ap Some (same_lowest F C s modulo n m p q)
 
 pub lowest_failing_once : (κs : _) (a : _) (r r' : Option ℕ) (s s' : _) → lowest_failing.Post κs a r s → lowest_failing.Post κs a r' s'
-    → (r ≡ r') × (s.1.1.1.1.1.1.0.now ≡ s'.1.1.1.1.1.1.0.now)
+    → (r ≡ r') × (s.1.1.1.1.0.now ≡ s'.1.1.1.1.0.now)
 lowest_failing_once κs a r r' s s' p q =
-    let w = some_witness a.1.1.1.1.1.1.0.now in
+    let w = some_witness a.1.1.1.1.0.now in
     (finds_once _ _ w.0 _ r r' (p.0 w.0 w.1) (q.0 w.0 w.1), p.1 ∙ sym q.1)

@@ -4,15 +4,18 @@ use Rattle.paper.specs.Atoms.{◌∈◌, Clause, Formula, Live, Witness}
 use Rattle.paper.specs.Files.{File}
 use Rattle.paper.specs.Conditions.{Passes, Lowest}
 use Rattle.paper.specs.Valid.{Codes, Apart, Valid}
-use Rattle.lookup.specs.Clause.{ClauseTable}
+use Rattle.lookup.specs.declared.Clauses.{Clauses}
 use Rattle.lookup.specs.Live.{live}
 use Rattle.loading.specs.Loading.{Ready}
+
+-- the formula of the live clauses
+abbrev pub live_in : Clauses → Formula
+live_in c = live c.formula.now c.proof.now c.words.now
 
 -- live clauses and a new clause C whose codes are in range, none with a variable twice, and a table ready for the variables
 pub record Asked (f p : File) (ws : List ℕ) (C : Clause) (vars : ℕ) (t : List ℕ) : Type 0 where
   pub ready : Ready vars t
   pub numbers : length ws ≤ 16384
-  pub clauses : ClauseTable f p (length ws) ws
   pub valid : Valid vars (live f p ws)
   pub codes : Codes vars C
   pub apart : Apart C

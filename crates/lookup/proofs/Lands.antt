@@ -13,22 +13,18 @@ use Rattle.lookup.specs.Clause.{Entered, Stands, Lands, ClauseTable}
 -- the word of k, and that of the number it tells, as in another table
 pub lands_kept : {next : ℕ} {ws us : List ℕ} {k : ℕ} → get_or us k 0 ≡ get_or ws k 0 → get_or us (get_or ws k 0) 0 ≡ get_or ws (get_or ws k 0) 0
     → Lands next ws k → Lands next us k
-lands_kept e there l = record { above = rw e l.above; ends = rw (e, there) l.ends }
+lands_kept e there l = record { above = rw e l.above; ends = λ ne. rw (e, there) (l.ends (λ q. ne (e ∙ q))) }
 
 -- the next number entered
-pub lands_entered : {n : ℕ} {ws : List ℕ} (k w : ℕ) → n < length ws → get_or ws n 0 ≡ 0 → Entered w → k ≢ n → Lands n ws k → Lands (n + 1) (set ws n w) k
-lands_entered {n} {ws} k w h z in_use ne l = record { above = rw same l.above; ends = inr (rw same (live l.ends)) }
+pub lands_entered : {n : ℕ} {ws : List ℕ} (k w : ℕ) → n < length ws → Entered w → k ≢ n → Lands n ws k → Lands (n + 1) (set ws n w) k
+lands_entered {n} {ws} k w h in_use ne l = record { above = rw same l.above; ends = λ _. rw same (live (ℕ_discrete (get_or ws k 0) n)) }
   where
     same : get_or (set ws n w) k 0 ≡ get_or ws k 0
     same = get_or-set_other ws n k w 0 ne
 
-    live : (get_or ws k 0 ≡ n) ⊎ Entered (get_or ws (get_or ws k 0) 0) → Entered (get_or (set ws n w) (get_or ws k 0) 0)
-    live (inl e) = rw (e, get_or-set_same ws n w 0 h) in_use
-    live (inr b) = go (ℕ_discrete (get_or ws k 0) n)
-      where
-        go : Dec (get_or ws k 0 ≡ n) → Entered (get_or (set ws n w) (get_or ws k 0) 0)
-        go (yes e) = let x : Entered (get_or ws n 0) = rw e at b in absurd (omega arith)
-        go (no m) = rw (get_or-set_other ws n (get_or ws k 0) w 0 m) b
+    live : Dec (get_or ws k 0 ≡ n) → Entered (get_or (set ws n w) (get_or ws k 0) 0)
+    live (yes e) = rw (e, get_or-set_same ws n w 0 h) in_use
+    live (no m) = rw (get_or-set_other ws n (get_or ws k 0) w 0 m) (l.ends m)
 
 -- the numbers from k up to m, none of them live
 pub record Run (ws : List ℕ) (k m : ℕ) : Type 0 where
@@ -67,7 +63,7 @@ settled t last =
 
 -- the word right below m, pointed to e, where no number between them is live
 pub pointed : {f p : File} {next : ℕ} {ws : List ℕ} (i e : ℕ) → Lowering f p next (suc i) ws → i < length ws → i < next → e ≤ next → e < 1048576
-    → ((j : ℕ) → i < j → j < e → get_or ws j 0 < 1048576) → i < e → (e ≡ next) ⊎ Entered (get_or ws e 0) → Lowering f p next i (set ws i e)
+    → ((j : ℕ) → i < j → j < e → get_or ws j 0 < 1048576) → i < e → (e ≢ next → Entered (get_or ws e 0)) → Lowering f p next i (set ws i e)
 pointed {f} {p} {next} {ws} i e t h below last low between up end =
     record {
       stands = λ k b. word_stands k b (ℕ_discrete k i);
@@ -109,7 +105,7 @@ pointed {f} {p} {next} {ws} i e t h below last low between up end =
     landing : (k : ℕ) → 1 ≤ k → k < next → get_or us k 0 < 1048576 → Dec (k ≡ i) → Lands next us k ⊎ Run us k i
     landing k a b q (yes z) =
         let ne : e ≢ i = omega arith in
-        inl (record { above = rw (here k z) (omega arith); ends = rw (here k z, other e ne) end })
+        inl (record { above = rw (here k z) (omega arith); ends = λ m. rw (here k z, other e ne) (end (λ q. m (here k z ∙ q))) })
     landing k a b q (no ne) =
         let y : get_or ws k 0 < 1048576 = rw (other k ne) at q in
         ⊎_elim (λ l. told k ne y l (ℕ_discrete (get_or ws k 0) i))

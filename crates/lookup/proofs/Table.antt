@@ -2,7 +2,7 @@
 -- Assumes nothing.
 use Prim.Native.Nat.{ℕ, zero, suc, ◌+◌, ◌-◌, ◌≤◌, ◌<◌, max}
 use mathlib.Core.Path.{◌≡◌, refl, sym, ◌∙◌}
-use mathlib.Core.Logic.{◌≢◌, ◌⊎◌, inl, inr}
+use mathlib.Core.Logic.{◌≢◌}
 use mathlib.Core.Bool.{Bool, true, false}
 use mathlib.Core.List.{List, [], ◌∷◌}
 use native.Mathlib.Omega.{arith}
@@ -98,7 +98,7 @@ table_entered {f} {p} {n} {ws} t h w in_use stands =
     landing : (k : ℕ) → 1 ≤ k → k < n + 1 → get_or (set ws n w) k 0 < 1048576 → Dec (k ≡ n) → Lands (n + 1) (set ws n w) k
     landing k a b low (yes e) = let q : get_or (set ws n w) k 0 ≡ w = rw e here in absurd (omega arith)
     landing k a b low (no ne) =
-        lands_entered k w h (t.unused n (omega arith)) in_use ne (t.lands k a (omega arith) (rw (get_or-set_other ws n k w 0 ne) at low))
+        lands_entered k w h in_use ne (t.lands k a (omega arith) (rw (get_or-set_other ws n k w 0 ne) at low))
 
 -- where the search goes on: not before the number, not past those in use, past no live one, and at a live one or at next
 module _ (ws : List ℕ) (n : ℕ) where
@@ -130,29 +130,29 @@ module _ (ws : List ℕ) (n : ℕ) where
         go true q h = absurd (omega arith)
         go false q h = t.passed n k (leb_no 1048576 (get_or ws n 0) q) a (omega arith)
 
-    pub onward_ends : 1 ≤ n → n ≤ next → (onward ws n ≡ next) ⊎ Entered (get_or ws (onward ws n) 0)
+    pub onward_ends : 1 ≤ n → n ≤ next → onward ws n ≢ next → Entered (get_or ws (onward ws n) 0)
     unfolding onward
-    onward_ends a h = go (leb 1048576 (get_or ws n 0)) refl (ℕ_discrete n next)
+    onward_ends a h m = go (leb 1048576 (get_or ws n 0)) refl (ℕ_discrete n next) m
       where
-        go : (b : Bool) → leb 1048576 (get_or ws n 0) ≡ b → Dec (n ≡ next) → (further b ≡ next) ⊎ Entered (get_or ws (further b) 0)
-        go true q d = inr (leb_yes 1048576 (get_or ws n 0) q)
-        go false q (yes e) = let z = t.unused n (omega arith) in inl (omega arith)
-        go false q (no ne) =
+        go : (b : Bool) → leb 1048576 (get_or ws n 0) ≡ b → Dec (n ≡ next) → further b ≢ next → Entered (get_or ws (further b) 0)
+        go true q d m = leb_yes 1048576 (get_or ws n 0) q
+        go false q (yes e) m = let z = t.unused n (omega arith) in absurd (m (omega arith))
+        go false q (no ne) m =
             let l = t.lands n a (omega arith) (leb_no 1048576 (get_or ws n 0) q) in
             let x = l.above in
-            let m : max n (get_or ws n 0) ≡ get_or ws n 0 = omega arith in
-            rw m l.ends
+            let e : max n (get_or ws n 0) ≡ get_or ws n 0 = omega arith in
+            rw e (l.ends (λ z. m (e ∙ z)))
 
 -- n and those right below it that are not live, where no number between n and e is
 lowered_table : {f p : File} {next : ℕ} (n e : ℕ) (ws : List ℕ) → Lowering f p next (suc n) ws → n < length ws → n < next → e ≤ next → e < 1048576
-    → ((j : ℕ) → n < j → j < e → get_or ws j 0 < 1048576) → n < e → (e ≡ next) ⊎ Entered (get_or ws e 0) → ClauseTable f p next (lowered (set ws n e) n e)
+    → ((j : ℕ) → n < j → j < e → get_or ws j 0 < 1048576) → n < e → (e ≢ next → Entered (get_or ws e 0)) → ClauseTable f p next (lowered (set ws n e) n e)
 unfolding lowered
 lowered_table zero e ws t h below last low between up end =
     settled (pointed 0 e t h below last low between up end) (λ k r. let x = r.below in absurd (omega arith))
 lowered_table {f} {p} {next} (suc n) e ws t h below last low between up end =
     go (leb 1048576 (get_or us n 0)) refl
     (lowered_table n e us here (omega (arith, length-set ws (suc n) e)) (omega arith) last low (λ j a b. from j a b (ℕ_discrete j (suc n)))
-    (omega arith) (rw (get_or-set_other ws (suc n) e e 0 ne) end))
+    (omega arith) (λ m. rw (get_or-set_other ws (suc n) e e 0 ne) (end m)))
   where
     us : List ℕ
     us = set ws (suc n) e

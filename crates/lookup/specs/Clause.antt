@@ -1,5 +1,5 @@
 -- The words of the clause table: the clause that a word stands for, the number at which to go on, and what the words always are.
-use Rattle.std.specs.Prelude.{ℕ, zero, suc, ◌+◌, ◌%◌, ◌≤◌, ◌<◌, ◌≡◌, ◌⊎◌, true, false, List, leb, length, get_or, max, set}
+use Rattle.std.specs.Prelude.{ℕ, zero, suc, ◌+◌, ◌%◌, ◌≤◌, ◌<◌, ◌≡◌, ◌≢◌, true, false, List, leb, length, get_or, max, set}
 use Rattle.paper.specs.Files.{File, two, payload}
 use Rattle.field.specs.Field.{extent_at}
 
@@ -48,7 +48,7 @@ cleared ws n = lowered (set ws n (onward ws (n + 1))) n (onward ws (n + 1))
 -- from number n the search goes on at a live number above it, or at next
 pub record Lands (next : ℕ) (ws : List ℕ) (n : ℕ) : Type 0 where
   pub above : n < get_or ws n 0
-  pub ends : (get_or ws n 0 ≡ next) ⊎ Entered (get_or ws (get_or ws n 0) 0)
+  pub ends : get_or ws n 0 ≢ next → Entered (get_or ws (get_or ws n 0) 0)
 
 -- What the words always are, the numbers below next in use: each clause stands in its file, no live number is passed over, none at or
 -- above next has a word, and from a number in use that is not live the search goes on at the next live one, or at next.

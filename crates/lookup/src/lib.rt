@@ -1,5 +1,6 @@
 // The clause table by number: one word for each clause number. The word of a live clause is 1,048,576 (it stands in the formula)
 // or 2,097,152 (in the proof) plus the offset of the clause's tag in that file. Any word below tells at which number to go on.
+// Words and no map: the memory is fixed, and the caller lends it.
 #![tactic(auto)]
 
 ghost use Rattle.std.specs.Prelude.{◌≡◌, ◌+◌, ◌≤◌, ◌<◌, length, get_or, set};
@@ -11,7 +12,17 @@ ghost use Rattle.lookup.specs.Live.{EmptyLive};
 // From here on a word is that of a live clause.
 pub const LIVE: u32 = 1048576;
 
+// The two files and the words of the clause numbers in use: the live clauses.
+#[derive(Clone, Copy)]
+pub struct Clauses<'a, 'w> {
+    pub formula: &'a [u8],
+    pub proof: &'a [u8],
+    pub words: &'w [u32],
+    pub ghost stands: { ClauseTable formula.now proof.now (length words.now) words.now },
+}
+
 // The payload of the field whose tag is at a place. That it lies in the file was tested when its clause was entered.
+#[tactic(auto, unfolding(paper::specs::Files::payload, field::specs::Field::extent_at))]
 fn payload_at(s: &[u8], at: usize) -> &[u8]
     requires { at + 3 + two s.now (at + 1) ≤ length s.now }
     ensures { result.now ≡ payload s.now (extent_at s.now at) }
@@ -22,6 +33,7 @@ fn payload_at(s: &[u8], at: usize) -> &[u8]
 }
 
 // The clause of number n, as it stands in the formula or in the proof.
+#[tactic(auto, using(crate::proofs::Clause::clause_formula, crate::proofs::Clause::clause_proof))]
 pub fn clause_at<'a>(formula: &'a [u8], proof: &'a [u8], words: &[u32], n: usize) -> &'a [u8]
     requires { (n < length words.now) × (Entered (get_or words.now n 0) × Stands formula.now proof.now (get_or words.now n 0)) }
     ensures { result.now ≡ clause_bytes formula.now proof.now (get_or words.now n 0) }
@@ -34,7 +46,8 @@ pub fn clause_at<'a>(formula: &'a [u8], proof: &'a [u8], words: &[u32], n: usize
     payload_at(proof, at)
 }
 
-// The word of the clause whose tag is at a place of the formula.
+// The word of the clause whose tag is at a place of the formula. Not one function with the file's number as a parameter: each is a line,
+// and the definitions have both names.
 pub fn formula_word(at: usize) -> u32
     requires { at < 1048576 }
     ensures { result ≡ formula_word at }
@@ -92,12 +105,11 @@ pub fn remove(words: &mut [u32], n: usize)
 }
 
 // Whether an empty clause is live. A payload of fewer than two bytes holds no code.
-pub fn has_empty<'a>(formula: &'a [u8], proof: &'a [u8], words: &[u32]) -> bool
-    requires { ClauseTable formula.now proof.now (length words.now) words.now }
-    ensures { EmptyLive formula.now proof.now words.now result }
+pub fn has_empty(live: Clauses) -> bool
+    ensures { EmptyLive live.entry.formula.now live.entry.proof.now live.entry.words.now result }
 {
-    for n in 0..words.len() {
-        if LIVE <= words[n] && clause_at(formula, proof, words, n).len() < 2 {
+    for n in 0..live.words.len() {
+        if LIVE <= live.words[n] && clause_at(live.formula, live.proof, live.words, n).len() < 2 {
             return true;
         }
     }

@@ -11,6 +11,8 @@ use native.Mathlib.Decide.{ℕ_discrete}
 use borrow.Author.Tests.{eq-eqb, ne_eqb}
 use lib.Dec.{eqb, leb}
 use lib.ListN.{length}
+use Rattle.std.specs.Prelude.{Ok}
+use Rattle.std.proofs.Math.Bool.{or-true}
 use Rattle.paper.specs.declared.Reason.{Reason}
 use Rattle.paper.specs.declared.Reason.TheVariants.{ProofCode, ProofTwice}
 use Rattle.paper.specs.Atoms.{complement, ◌∈◌, Witness}
@@ -22,7 +24,6 @@ use Rattle.paper.proofs.Lists.{and_yes, or_no, leb_yes, eqb_no}
 use Rattle.table.specs.Table.{Kept, value_at, mapped_at, image_at, image_of, set_image, Zero}
 use Rattle.table.proofs.Laws.{length_set_image, image_unmapped, image_same, image_other, mapped_same, mapped_other, value_set_image}
 use Rattle.table.proofs.Kept.{kept_refl, same_table}
-use Rattle.std.specs.Prelude.{Ok}
 use Rattle.mapping.specs.Mapping.{variables, Fitting, Bare, loaded, unloaded, said_by}
 use Rattle.mapping.proofs.Unloading.{Apart, unload_back, unload_value}
 use Rattle.mapping.proofs.Loading.{bare_mapped, apart_set}
@@ -148,10 +149,6 @@ images (m ∷ s) t v l fits d e =
         ∙ sym (look_here m s v h (sym p))
     go (no n) below = below (image_other t m.0 m.1 v n ∙ e) ∙ sym (look_past m s v (λ p. n (sym p)))
 
-or_true : (b : Bool) → (b || true) ≡ true
-or_true true = refl
-or_true false = refl
-
 mapped : (s : Witness) (t : List ℕ) (v : ℕ) → 8192 ≤ length t → Fitting s → mapped_at (loaded t s) v ≡ (is_in v (variables s) || mapped_at t v)
 unfolding loaded is_in
 mapped [] t v l fits = refl
@@ -166,7 +163,7 @@ mapped (m ∷ s) t v l fits =
     go : Dec (v ≡ m.0) → (b : Bool) → (b || mapped_at (set_image t m.0 m.1) v) ≡ (eqb v m.0 || b || mapped_at t v)
     go (yes e) b =
         ap (λ c. b || c) (ap (mapped_at (set_image t m.0 m.1)) e ∙ mapped_same t m.0 m.1 in_table)
-        ∙ or_true b
+        ∙ or-true b
         ∙ sym (ap (λ c. c || b || mapped_at t v) (eq-eqb v m.0 e))
     go (no n) b = ap (λ c. b || c) (mapped_other t m.0 m.1 v n) ∙ sym (ap (λ c. c || b || mapped_at t v) (ne_eqb v m.0 n))
 

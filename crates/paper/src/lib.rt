@@ -2,7 +2,7 @@
 #![tactic(auto)]
 
 ghost use Rattle.std.specs.Prelude.{◌≡◌};
-ghost use Rattle.paper.specs.Answers.{number_of, verdict_numbers};
+ghost use Rattle.paper.specs.Answers.{number_of, verdict_numbers, refused};
 
 // Where the payload of a field starts, and how long it is.
 #[derive(Clone, Copy)]
@@ -20,7 +20,7 @@ pub struct Fields {
     pub next: usize,
 }
 
-#[derive(Clone, Copy)]
+#[derive(Clone, Copy, PartialEq, Eq)]
 pub enum Reason {
     WorkShort,
     FileLong,
@@ -62,52 +62,65 @@ pub struct Numbers {
     pub place: usize,
 }
 
-pub fn reason_number(r: Reason) -> u8
-    ensures { result ≡ number_of r }
-{
-    match r {
-        Reason::WorkShort => 1,
-        Reason::FileLong => 2,
-        Reason::FormulaField => 3,
-        Reason::OverLimit => 4,
-        Reason::FormulaCode => 5,
-        Reason::FormulaTwice => 6,
-        Reason::FormulaEnd => 7,
-        Reason::ProofField => 8,
-        Reason::ProofCode => 9,
-        Reason::ProofTwice => 10,
-        Reason::NumberNotLive => 11,
-        Reason::NumbersUsedUp => 12,
-        Reason::NotRup => 13,
-        Reason::NotTrivialised => 14,
-        Reason::NotPassing => 15,
+impl From<Reason> for u8 {
+    ghost from_gives = { λ reason n. n ≡ number_of reason };
+
+    fn from(reason: Reason) -> u8 {
+        match reason {
+            Reason::WorkShort => 1,
+            Reason::FileLong => 2,
+            Reason::FormulaField => 3,
+            Reason::OverLimit => 4,
+            Reason::FormulaCode => 5,
+            Reason::FormulaTwice => 6,
+            Reason::FormulaEnd => 7,
+            Reason::ProofField => 8,
+            Reason::ProofCode => 9,
+            Reason::ProofTwice => 10,
+            Reason::NumberNotLive => 11,
+            Reason::NumbersUsedUp => 12,
+            Reason::NotRup => 13,
+            Reason::NotTrivialised => 14,
+            Reason::NotPassing => 15,
+        }
     }
 }
 
-pub fn as_numbers(v: Verdict) -> Numbers
-    ensures { result ≡ verdict_numbers v }
-{
-    match v {
-        Verdict::Refuted(steps) => Numbers {
-            verdict: 0,
-            reason: 0,
-            step: steps,
-            place: 0,
-        },
-        Verdict::Held(steps) => Numbers {
-            verdict: 1,
-            reason: 0,
-            step: steps,
-            place: 0,
-        },
-        Verdict::Refused(f) => {
-            let why = f.reason;
-            Numbers {
+impl Verdict {
+    pub fn refused(reason: Reason, step: usize, place: usize) -> Verdict
+        ensures { result ≡ refused reason step place }
+    {
+        Verdict::Refused(Refusal {
+            reason,
+            step,
+            place,
+        })
+    }
+}
+
+impl From<Verdict> for Numbers {
+    ghost from_gives = { λ verdict n. n ≡ verdict_numbers verdict };
+
+    fn from(verdict: Verdict) -> Numbers {
+        match verdict {
+            Verdict::Refuted(step) => Numbers {
+                verdict: 0,
+                reason: 0,
+                step,
+                place: 0,
+            },
+            Verdict::Held(step) => Numbers {
+                verdict: 1,
+                reason: 0,
+                step,
+                place: 0,
+            },
+            Verdict::Refused(refusal) => Numbers {
                 verdict: 2,
-                reason: reason_number(why),
-                step: f.step,
-                place: f.place,
-            }
+                reason: refusal.reason.into(),
+                step: refusal.step,
+                place: refusal.place,
+            },
         }
     }
 }

@@ -17,7 +17,6 @@ use Rattle.paper.specs.Sweeps.{Values, is_true, put, not_false, State, visit, vi
 use Rattle.paper.specs.Valid.{Codes, Valid}
 use Rattle.paper.proofs.Values.{not_false_out}
 use Rattle.paper.proofs.Propagation.{sweeping, visit_none, visit_true, visit_set, visit_more, visits_end, visits_clashed, visits_next, sweep_visits, sweeps_none, sweeps_clash, sweeps_last, sweeps_next, Loaded, sweeps_iff}
-use Rattle.lookup.specs.Clause.{ClauseTable}
 use Rattle.lookup.specs.Live.{live}
 use Rattle.table.specs.Table.{value_at, Kept}
 use Rattle.table.proofs.Values.{values_at}
@@ -63,7 +62,6 @@ module _ {f p : File} {ws t₀ : List ℕ} where
             long = omega (arith, run.kept.long, asked.long);
             numbers = asked.numbers;
             codes = asked.codes;
-            clauses = asked.clauses;
             going = run.going;
             few_literals = omega arith;
             few_sweeps = omega arith;
@@ -172,9 +170,9 @@ valid_more vars top F h valid =
 
 -- valid clauses can be propagated over
 pub propagable : (vars : ℕ) (f p : File) (ws t : List ℕ) → vars ≤ 4095 → Valid vars (live f p ws) → length ws ≤ 16384 → 8192 ≤ length t
-    → ClauseTable f p (length ws) ws → Propagable f p ws t
-propagable vars f p ws t h valid numbers long clauses =
-    record { long = long; numbers = numbers; codes = (valid_more vars 4095 (live f p ws) h valid).codes; clauses = clauses }
+    → Propagable f p ws t
+propagable vars f p ws t h valid numbers long =
+    record { long = long; numbers = numbers; codes = (valid_more vars 4095 (live f p ws) h valid).codes }
 
 -- 4. What callers learn.
 -- as many sweeps as there are variables, and one more, over valid clauses

@@ -4,7 +4,6 @@ use Rattle.paper.specs.Atoms.{Clause, Live}
 use Rattle.paper.specs.Files.{File}
 use Rattle.paper.specs.Sweeps.{sweeps_to}
 use Rattle.paper.specs.Valid.{Codes}
-use Rattle.lookup.specs.Clause.{ClauseTable}
 use Rattle.lookup.specs.Live.{live}
 use Rattle.table.specs.Table.{value_at, Kept}
 use Rattle.sweep.specs.declared.Propagation.{Propagation}
@@ -14,12 +13,11 @@ use Rattle.sweep.specs.Swept.{state_of}
 abbrev pub begun : Propagation
 begun = record { literals = 0; sweeps = 0; clash = false }
 
--- Room for the variables 0 to 4,095, whose literals the live clauses hold; each clause stands in its file, and none is passed over.
+-- Room for the variables 0 to 4,095, whose literals the live clauses hold.
 pub record Propagable (f p : File) (ws t : List ℕ) : Type 0 where
   pub long : 8192 ≤ length t
   pub numbers : length ws ≤ 16384
   pub codes : (n : ℕ) (D : Clause) → Live (live f p ws) n D → Codes 4095 D
-  pub clauses : ClauseTable f p (length ws) ws
 
 -- The state is that of the paper's sweeps, 4,096 at most; nothing but values of the variables 0 to 4,095 has changed in the table.
 pub record Propagated (f p : File) (ws t t' : List ℕ) (r : Propagation) : Type 0 where

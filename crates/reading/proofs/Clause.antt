@@ -1,23 +1,21 @@
 -- One clause as the code reads it, against the paper's reading of the clauses.
 -- Assumes nothing.
-use Prim.Native.Nat.{ℕ, suc, ◌%◌, ◌≤◌, ◌<◌}
-use mathlib.Core.Path.{◌≡◌, refl, sym, ap, subst, ◌∙◌}
+use Prim.Native.Nat.{ℕ, suc, ◌≤◌, ◌<◌}
+use mathlib.Core.Path.{◌≡◌, refl, sym, ap}
 use mathlib.Core.List.{[], ◌∷◌, ◌++◌, append-nil, append_assoc}
 use borrow.Author.Tests.{lt-ltb, le-ltb}
 use lib.ListN.{length}
-use Rattle.paper.specs.declared.Reason.{Reason}
+use Rattle.std.proofs.Common.{Ok, Err}
 use Rattle.paper.specs.declared.Reason.TheVariants.{FormulaField, FormulaCode, FormulaTwice, FormulaEnd}
-use Rattle.paper.specs.declared.Extent.{Extent}
 use Rattle.paper.specs.Atoms.{Clause, Formula}
 use Rattle.paper.specs.Files.{File, Read, ok, bad, ◌>>=◌, ◌>>◌, need, payload, past, field, even, codes}
 use Rattle.paper.specs.Refusals.{check_clause, read_clauses}
-use Rattle.paper.proofs.Lists.{eqb_yes}
-use Rattle.field.specs.Field.{extent_at}
-use Rattle.field.proofs.Laws.{stands}
-use Rattle.clauses.specs.declared.ClauseCheck.{ClauseCheck}
-use Rattle.clauses.specs.Check.{Checkable, clause_said}
-use Rattle.reading.specs.declared.ClauseRead.{ClauseRead}
-use Rattle.reading.specs.Reading.{prepend, ClauseTaken, ClauseSaid}
+use Rattle.field.specs.declared.Found.{Found}
+use Rattle.field.specs.declared.Fault.{Fault}
+use Rattle.field.specs.Field.{extent_at, result_of, found_of}
+use Rattle.field.proofs.Laws.{stands, ok_in, bad_in, found_in, found_next, not_found}
+use Rattle.clauses.specs.Check.{Checkable}
+use Rattle.reading.specs.Reading.{prepend, ClauseTaken}
 
 -- clauses that were read, and the place past them
 abbrev read_up_to : ℕ → Formula → Read (Formula × ℕ)
@@ -50,42 +48,32 @@ module _ (f : File) (vars at : ℕ) where
   clause_ends h m n = rw (le-ltb at (length f) h)
 
   module _ (h : at < length f) where
-    pub clause_wrong : field FormulaField 0x02 even f at ≡ bad FormulaField at → (m n : ℕ) → read_clauses f vars (suc m) n at ≡ bad FormulaField at
+    pub clause_wrong : (b : Fault) → Err b ≡ found_of (field FormulaField 0x02 even f at) → (m n : ℕ) → read_clauses f vars (suc m) n at ≡ bad b.reason b.place
     unfolding read_clauses ◌>>◌ ◌>>=◌ need
-    clause_wrong q m n = rw (lt-ltb at (length f) h, q)
+    clause_wrong b q m n = rw (lt-ltb at (length f) h, not_found b _ q)
 
-    module _ (e : Extent) (q : field FormulaField 0x02 even f at ≡ ok e) where
-      pub clause_checkable : vars ≤ 4095 → Checkable f e vars
-      unfolding even
-      clause_checkable k =
-          let s = stands FormulaField 0x02 even f at e q in
-          record { within = s.within; whole = eqb_yes (e.size % 2) 0 s.length_allowed; limit = k }
+    module _ (d : Found) (q : Ok d ≡ found_of (field FormulaField 0x02 even f at)) where
+      pub clause_checkable : vars ≤ 4095 → Checkable f d.extent vars
+      clause_checkable k = record { within = (stands FormulaField 0x02 even f at d.extent (found_in d _ q)).within; limit = k }
 
-      -- the check's answer r, under another name s for it
-      module _ (r s : ClauseCheck) (said : (range twice : Reason) → check_clause range twice vars e.start (codes (payload f e)) ≡ clause_said range twice r) (same : r ≡ s) where
-        checked : check_clause FormulaCode FormulaTwice vars e.start (codes (payload f e)) ≡ clause_said FormulaCode FormulaTwice s
-        checked = said FormulaCode FormulaTwice ∙ ap (clause_said FormulaCode FormulaTwice) same
+      pub clause_bad : (b : Fault) → Err b ≡ result_of (check_clause FormulaCode FormulaTwice vars d.extent.start (codes (payload f d.extent))) → (m n : ℕ)
+          → read_clauses f vars (suc m) n at ≡ bad b.reason b.place
+      unfolding read_clauses ◌>>◌ ◌>>=◌ need
+      clause_bad b k m n = rw (lt-ltb at (length f) h, found_in d _ q, bad_in b _ k)
 
-        pub clause_bad : (reason : Reason) (p : ℕ) → clause_said FormulaCode FormulaTwice s ≡ bad reason p → (m n : ℕ)
-            → read_clauses f vars (suc m) n at ≡ bad reason p
-        unfolding read_clauses ◌>>◌ ◌>>=◌ need
-        clause_bad reason p k m n = rw (lt-ltb at (length f) h, q, checked ∙ k)
+      place : d.next.at ≡ past (extent_at f at)
+      unfolding past extent_at
+      place = let s = stands FormulaField 0x02 even f at d.extent (found_in d _ q) in rw (found_next d _ q, s.start, s.size)
 
-        place : past e ≡ past (extent_at f at)
-        unfolding past extent_at
-        place = let s = stands FormulaField 0x02 even f at e q in rw (s.start, s.size)
-
-        -- the next clause is read where the cursor past this one stands
-        pub clause_taken : clause_said FormulaCode FormulaTwice s ≡ ok tt → (next : ℕ) → next ≡ past e → ClauseTaken f vars at next
-        unfolding read_clauses ◌>>◌ ◌>>=◌ need
-        clause_taken k next g = record {
-          extent = e;
-          starts = h;
-          stands = q;
-          after = g ∙ place;
-          read = λ m n. rw g (rw (lt-ltb at (length f) h, q, checked ∙ k) (prepend_one n (codes (payload f e)) (read_clauses f vars m (suc n) (past e))));
-        }
-
--- the code's answer under another name for it
-pub clause_said_as : (f : File) (vars at : ℕ) (r s : ClauseRead) → ClauseSaid f vars at r → r ≡ s → ClauseSaid f vars at s
-clause_said_as f vars at r s k e = subst (λ (x : ClauseRead). ClauseSaid f vars at x) e k
+      -- the next clause is read where the cursor past this one stands
+      pub clause_taken : Ok tt ≡ result_of (check_clause FormulaCode FormulaTwice vars d.extent.start (codes (payload f d.extent))) → ClauseTaken f vars at d.next.at
+      unfolding read_clauses ◌>>◌ ◌>>=◌ need
+      clause_taken k = record {
+        extent = d.extent;
+        starts = h;
+        stands = found_in d _ q;
+        after = place;
+        read = λ m n.
+            rw (found_next d _ q)
+            (rw (lt-ltb at (length f) h, found_in d _ q, ok_in tt _ k) (prepend_one n (codes (payload f d.extent)) (read_clauses f vars m (suc n) (past d.extent))));
+      }

@@ -1,5 +1,4 @@
-pub mod Head
+pub mod HeadRead
 pub mod Clause
 pub mod Entering
-pub mod Formula
 pub mod Once

@@ -1,101 +1,89 @@
 // A formula is HEAD, then m CLAUSE fields, and nothing more. Each clause is entered into the clause table under its number.
 #![tactic(auto)]
 
-ghost use Rattle.std.specs.Prelude.{◌≡◌, ◌≤◌, ◌<◌, length};
+ghost use Rattle.std.specs.Prelude.{◌≡◌, ◌≤◌, ◌<◌, leb, length};
+ghost use Rattle.paper.specs.declared.Reason.{Reason};
+ghost use Rattle.paper.specs.Files.{need};
+ghost use Rattle.field.specs.Field.{result_of};
 ghost use Rattle.table.specs.Table.{Zero};
 ghost use Rattle.reading.specs.Reading.{HeadSaid, ClauseSaid, ClausesSaid, FormulaSaid};
 
-use clauses::ClauseCheck;
-use field::{Cursor, Expected, Length};
+use field::{Cursor, Fault, Length};
 use paper::Reason;
 
-// V, m and the cursor past HEAD; or what is wrong with HEAD.
+// V, m and the cursor past HEAD.
 #[derive(Clone, Copy)]
-pub enum HeadRead {
-    Limits {
-        vars: usize,
-        clauses: usize,
-        first: Cursor,
-    },
-    Bad {
-        reason: Reason,
-        place: usize,
-    },
+struct Head {
+    vars: usize,
+    clauses: usize,
+    first: Cursor,
 }
 
-fn read_head(formula: &[u8]) -> HeadRead
+#[tactic(auto, using(crate::proofs::HeadRead::head_long))]
+fn read_head(formula: &[u8]) -> Result<Head, Fault>
     ensures { HeadSaid formula.now result }
 {
-    let head = field::expect(formula, Cursor { at: 0 }, 1, Length::Four);
-    match head {
-        Expected::Found { extent: _, next } => {
-            let vars = field::pair_at(formula, 3);
-            let clauses = field::pair_at(formula, 5);
-            if 4095 < vars {
-                return HeadRead::Bad {
-                    reason: Reason::OverLimit,
-                    place: 0,
-                };
-            }
-            if 16383 < clauses {
-                return HeadRead::Bad {
-                    reason: Reason::OverLimit,
-                    place: 0,
-                };
-            }
-            HeadRead::Limits {
-                vars,
-                clauses,
-                first: next,
-            }
-        }
-        Expected::Wrong => HeadRead::Bad {
-            reason: Reason::FormulaField,
+    let head = field::expect(
+        formula,
+        Cursor { at: 0 },
+        Reason::FormulaField,
+        1,
+        Length::Four,
+    )?;
+    let vars = field::pair_at(formula, 3);
+    let clauses = field::pair_at(formula, 5);
+    if 4095 < vars || 16383 < clauses {
+        return Err(Fault {
+            reason: Reason::OverLimit,
             place: 0,
-        },
+        });
     }
+    Ok(Head {
+        vars,
+        clauses,
+        first: head.next,
+    })
 }
 
-// The cursor past what was read; or what is wrong with it.
-#[derive(Clone, Copy)]
-pub enum ClauseRead {
-    Next(Cursor),
-    Bad { reason: Reason, place: usize },
-}
-
-// The clause whose tag is at the cursor.
-fn read_clause(formula: &[u8], c: Cursor, vars: usize, t: &mut [u8]) -> ClauseRead
+// The clause whose tag is at the cursor; what is handed back is the cursor past it.
+#[tactic(auto, using(crate::proofs::Clause::clause_ends, crate::proofs::Clause::clause_checkable, crate::proofs::Clause::clause_taken))]
+fn read_clause(formula: &[u8], c: Cursor, vars: usize, t: &mut [u8]) -> Result<Cursor, Fault>
     requires { (vars ≤ 4095) × ((8192 ≤ length t.old) × Zero t.old) }
     ensures said { ClauseSaid formula.now vars c.at result }
     ensures table { t.new ≡ t.old }
 {
-    let at = c.at;
-    if formula.len() <= at {
-        return ClauseRead::Bad {
+    if formula.len() <= c.at {
+        return Err(Fault {
             reason: Reason::FormulaEnd,
-            place: at,
-        };
+            place: c.at,
+        });
     }
-    let Expected::Found { extent: e, next } = field::expect(formula, c, 2, Length::Even) else {
-        return ClauseRead::Bad {
-            reason: Reason::FormulaField,
-            place: at,
-        };
-    };
-    match clauses::check_clause(formula, e, vars, t) {
-        ClauseCheck::Fine => ClauseRead::Next(next),
-        ClauseCheck::Range(place) => ClauseRead::Bad {
-            reason: Reason::FormulaCode,
-            place,
-        },
-        ClauseCheck::Twice(place) => ClauseRead::Bad {
-            reason: Reason::FormulaTwice,
-            place,
-        },
-    }
+    let clause = field::expect(formula, c, Reason::FormulaField, 2, Length::Even)?;
+    clauses::check_clause(
+        formula,
+        clause.extent,
+        vars,
+        Reason::FormulaCode,
+        Reason::FormulaTwice,
+        t,
+    )?;
+    Ok(clause.next)
 }
 
-// The clauses from the cursor past HEAD on, each entered under its number.
+// After clause m the formula ends.
+fn nothing_follows(formula: &[u8], c: Cursor) -> Result<(), Fault>
+    ensures { result ≡ result_of (need (leb (length formula.now) c.at) Reason.FormulaEnd c.at) }
+{
+    if c.at < formula.len() {
+        return Err(Fault {
+            reason: Reason::FormulaEnd,
+            place: c.at,
+        });
+    }
+    Ok(())
+}
+
+// The clauses from the cursor past HEAD to the formula's end, each entered under its number.
 fn enter_clauses(
     formula: &[u8],
     vars: usize,
@@ -103,65 +91,39 @@ fn enter_clauses(
     first: Cursor,
     words: &mut [u32],
     t: &mut [u8],
-) -> ClauseRead
+) -> Result<(), Fault>
     requires { (length formula.now ≤ 1048576) × ((vars ≤ 4095) × ((m < length words.old) × (Zero words.old × ((8192 ≤ length t.old) × Zero t.old)))) }
     ensures said { ClausesSaid formula.now vars m first.at words.old words.new result }
     ensures table { t.new ≡ t.old }
 {
     let mut c = first;
-    let mut k: usize = 1;
-    while k <= m {
-        match read_clause(formula, c, vars, t) {
-            ClauseRead::Next(next) => {
-                lookup::enter(words, k, lookup::formula_word(c.at));
-                c = next;
-            }
-            ClauseRead::Bad { reason, place } => {
-                return ClauseRead::Bad { reason, place };
-            }
-        }
-        k += 1;
+    for k in 1..=m {
+        let next = read_clause(formula, c, vars, t)?;
+        lookup::enter(words, k, lookup::formula_word(c.at));
+        c = next;
     }
-    ClauseRead::Next(c)
+    nothing_follows(formula, c)
 }
 
-// The number of variables, and the number that the next clause would get; or what is wrong with the formula.
+// The number of variables, and the number that the next clause would get.
 #[derive(Clone, Copy)]
-pub enum FormulaRead {
-    Whole { vars: usize, next: usize },
-    Bad { reason: Reason, place: usize },
+pub struct FormulaRead {
+    pub vars: usize,
+    pub next: usize,
 }
 
-pub fn read_formula(formula: &[u8], words: &mut [u32], t: &mut [u8]) -> FormulaRead
+pub fn read_formula(formula: &[u8], words: &mut [u32], t: &mut [u8]) -> Result<FormulaRead, Fault>
     requires { (length formula.now ≤ 1048576) × ((16384 ≤ length words.old) × (Zero words.old × ((8192 ≤ length t.old) × Zero t.old))) }
     ensures said { FormulaSaid formula.now words.old words.new result }
     ensures table { t.new ≡ t.old }
 {
-    match read_head(formula) {
-        HeadRead::Bad { reason, place } => FormulaRead::Bad { reason, place },
-        HeadRead::Limits {
-            vars,
-            clauses,
-            first,
-        } => match enter_clauses(formula, vars, clauses, first, words, t) {
-            ClauseRead::Bad { reason, place } => {
-                words.fill(0);
-                FormulaRead::Bad { reason, place }
-            }
-            ClauseRead::Next(c) => {
-                let at = c.at;
-                if at < formula.len() {
-                    words.fill(0);
-                    return FormulaRead::Bad {
-                        reason: Reason::FormulaEnd,
-                        place: at,
-                    };
-                }
-                FormulaRead::Whole {
-                    vars,
-                    next: clauses + 1,
-                }
-            }
-        },
+    let head = read_head(formula)?;
+    if let Err(fault) = enter_clauses(formula, head.vars, head.clauses, head.first, words, t) {
+        words.fill(0);
+        return Err(fault);
     }
+    Ok(FormulaRead {
+        vars: head.vars,
+        next: head.clauses + 1,
+    })
 }

@@ -14,5 +14,5 @@ pub swept_once : {f p : File} {ws t : List ℕ} {x : Propagation} {u u' : List �
 swept_once r r' a b = state_once r r' (a.state ∙ sym b.state) a.kept b.kept a.beyond b.beyond
 
 pub sweep_once : (κs : _) (a : _) (r r' : Propagation) (s s' : _) → sweep.Post κs a r s → sweep.Post κs a r' s'
-    → (r ≡ r') × (s.1.1.1.0.now ≡ s'.1.1.1.0.now)
+    → (r ≡ r') × (s.1.0.now ≡ s'.1.0.now)
 sweep_once κs a r r' s s' p q = swept_once r r' p q

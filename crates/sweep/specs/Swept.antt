@@ -4,7 +4,6 @@ use Rattle.paper.specs.Atoms.{Clause, Live}
 use Rattle.paper.specs.Files.{File}
 use Rattle.paper.specs.Sweeps.{not_false, State, sweep}
 use Rattle.paper.specs.Valid.{Codes}
-use Rattle.lookup.specs.Clause.{ClauseTable}
 use Rattle.lookup.specs.Live.{live}
 use Rattle.table.specs.Table.{values, value_at, Kept}
 use Rattle.sweep.specs.declared.Propagation.{Propagation}
@@ -17,13 +16,11 @@ state_of t x = record { values = values 4095 t; literals = x.literals; sweeps = 
 abbrev pub all_false : ℕ → List ℕ → Clause → Bool
 all_false vars t D = eqb (length (not_false (values vars t) D)) 0
 
--- Room for the variables 0 to 4,095, whose literals the live clauses hold; each clause stands in its file, and none is passed over;
--- no clash yet; counters that can be counted on.
+-- Room for the variables 0 to 4,095, whose literals the live clauses hold; no clash yet; counters that can be counted on.
 pub record Sweepable (f p : File) (ws t : List ℕ) (x : Propagation) : Type 0 where
   pub long : 8192 ≤ length t
   pub numbers : length ws ≤ 16384
   pub codes : (n : ℕ) (D : Clause) → Live (live f p ws) n D → Codes 4095 D
-  pub clauses : ClauseTable f p (length ws) ws
   pub going : x.clash ≡ false
   pub few_literals : x.literals < 4294967296
   pub few_sweeps : x.sweeps < 4294967296

@@ -7,7 +7,10 @@ ghost use Rattle.paper.specs.Files.{codes};
 ghost use Rattle.paper.specs.Valid.{Codes};
 ghost use Rattle.sweep.specs.Swept.{all_false, Sweepable, Swept};
 
+use lookup::Clauses;
+
 // Whether a variable's value (0 to 3) is neither true (1) nor false (2), by one test.
+#[tactic(auto, using(crate::proofs::Laws::one_test))]
 fn is_unset(value: usize) -> bool
     requires { value < 4 }
     ensures { (result ≡ true → (value ≢ 1) × (value ≢ 2)) × (result ≡ false → (1 ≤ value) × (value ≤ 2)) }
@@ -40,23 +43,23 @@ pub struct Propagation {
     pub clash: bool,
 }
 
-pub fn sweep<'a>(
-    formula: &'a [u8],
-    proof: &'a [u8],
-    words: &[u32],
-    t: &mut [u8],
-    p: Propagation,
-) -> Propagation
-    requires { Sweepable formula.now proof.now words.now t.old p }
-    ensures { Swept formula.now proof.now words.now t.old p t.new result }
+pub fn sweep(live: Clauses, t: &mut [u8], p: Propagation) -> Propagation
+    requires { Sweepable live.formula.now live.proof.now live.words.now t.old p }
+    ensures { Swept live.entry.formula.now live.entry.proof.now live.entry.words.now t.old p t.new result }
 {
     let mut count = p.literals;
     let mut clash = false;
     let mut k: usize = 0;
     // No `for`: the word of a number that is not live tells at which number to go on.
-    'clauses: while k < words.len() {
-        if lookup::LIVE <= words[k] {
-            let mut literals = codes::of(lookup::clause_at(formula, proof, words, k));
+    'clauses: while k < live.words.len() {
+        if lookup::LIVE <= live.words[k] {
+            let mut literals = codes::of(lookup::clause_at(
+                live.formula,
+                live.proof,
+                live.words,
+                k,
+            ));
+            // No `for`: that no literal is left is the clash, which leaves both loops.
             'literals: loop {
                 let Some(code) = literals.next() else {
                     clash = true;
@@ -76,7 +79,7 @@ pub fn sweep<'a>(
             }
             k += 1;
         } else {
-            k = lookup::onward(words, k + 1);
+            k = lookup::onward(live.words, k + 1);
         }
     }
     let sweeps = p.sweeps + 1;

@@ -4,35 +4,22 @@
 
 ghost use Rattle.sweep.specs.Swept.{Sweepable, Swept};
 
+use lookup::Clauses;
 use sweep::Propagation;
 
-pub fn sweep_into<'a, 'w, 't, 'p>(
-    formula: &'a [u8],
-    proof: &'a [u8],
-    words: &'w [u32],
-    t: &'t mut [u8],
-    p: &'p mut Propagation,
-)
-    requires { Sweepable formula.now proof.now words.now t.old p.old }
-    ensures { Swept formula.now proof.now words.now t.old p.old t.new p.new }
+pub fn sweep_into(live: Clauses, t: &mut [u8], p: &mut Propagation)
+    requires { Sweepable live.formula.now live.proof.now live.words.now t.old p.old }
+    ensures { Swept live.entry.formula.now live.entry.proof.now live.entry.words.now t.old p.old t.new p.new }
 {
-    let old = *p;
-    let new = sweep::sweep(formula, proof, words, t, old);
-    *p = new;
+    *p = sweep::sweep(live, t, *p);
 }
 
 // The record is a local, lent for one sweep and handed back: what `sweep::sweep` says.
-pub fn sweep_once<'a>(
-    formula: &'a [u8],
-    proof: &'a [u8],
-    words: &[u32],
-    t: &mut [u8],
-    p: Propagation,
-) -> Propagation
-    requires { Sweepable formula.now proof.now words.now t.old p }
-    ensures { Swept formula.now proof.now words.now t.old p t.new result }
+pub fn sweep_once(live: Clauses, t: &mut [u8], p: Propagation) -> Propagation
+    requires { Sweepable live.formula.now live.proof.now live.words.now t.old p }
+    ensures { Swept live.entry.formula.now live.entry.proof.now live.entry.words.now t.old p t.new result }
 {
     let mut state = p;
-    sweep_into(formula, proof, words, t, &mut state);
+    sweep_into(live, t, &mut state);
     state
 }

@@ -5,4 +5,4 @@ use Rattle.lookup.proofs.Live.{NotEmpty}
 use Rattle.lookup.proofs.has_empty.Given as goal
 
 abbrev pub invariant-loop-n : goal.invariant-loop-n
-invariant-loop-n l = (k : ℕ) → k < l.n → NotEmpty l.formula l.proof (get_or l.words k 0)
+invariant-loop-n l = (k : ℕ) → k < l.n → NotEmpty l.live.formula.now l.live.proof.now (get_or l.live.words.now k 0)

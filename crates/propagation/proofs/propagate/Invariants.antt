@@ -4,4 +4,4 @@ use Rattle.propagation.proofs.Laws.{Running}
 use Rattle.propagation.proofs.propagate.Given as goal
 
 abbrev pub invariant-loop : goal.invariant-loop
-invariant-loop l = Running l.formula l.proof l.words l.initial.t l.t l.p l.counter
+invariant-loop l = Running l.live.formula.now l.live.proof.now l.live.words.now l.initial.t l.t l.p l.counter

@@ -1,57 +1,21 @@
 -- `reading::read_head` meets its contract. Assumes nothing.
-use mathlib.Core.Path.{sym, ◌∙◌}
+use Prim.Native.Nat.{◌<◌}
+use mathlib.Core.Logic.{◌⊎◌, inl, inr}
 use native.Mathlib.Omega.{arith}
-use Rattle.paper.specs.declared.Reason.TheVariants.{FormulaField}
-use Rattle.paper.specs.Files.{four}
-use Rattle.field.proofs.Laws.{found, found_next, wrong}
-use Rattle.reading.proofs.Head.{head_wrong, head_long, head_vars_over, head_clauses_over, head_taken}
+use Rattle.std.proofs.lemmas.Result.{err_from_is_err_and}
+use Rattle.reading.proofs.HeadRead.{head_wrong, head_over, head_taken}
 use Rattle.reading.proofs.read_head.Goals as goal
 
-pub pair_at-vars-requires : goal.pair_at-vars-requires
-pair_at-vars-requires c =
-    let e = c.expect-head.ensures FormulaField in
-    let l = head_long _ _ (found FormulaField 1 four _ 0 _ _ (sym c.in-Found.is ∙ e)) in
-    omega arith
-
-pub pair_at-clauses-requires : goal.pair_at-clauses-requires
-pair_at-clauses-requires c =
-    let e = c.expect-head.ensures FormulaField in
-    let l = head_long _ _ (found FormulaField 1 four _ 0 _ _ (sym c.in-Found.is ∙ e)) in
-    omega arith
+pub returns-in_err-head : goal.returns-in_err-head
+returns-in_err-head c =
+    let p = err_from_is_err_and c.from_residual.result c.from_residual.ensures.1 in
+    rw (p.1, p.2) (head_wrong _ _ c.in_err-head.ensures)
 
 pub returns-then-vars-gt4095 : goal.returns-then-vars-gt4095
 returns-then-vars-gt4095 c =
-    let e = c.expect-head.ensures FormulaField in
-    head_vars_over
-    _ _
-    (found FormulaField 1 four _ 0 _ _ (sym c.in-Found.is ∙ e))
-    _
-    c.pair_at-vars.ensures.0
-    c.if-vars-gt4095.true
+    let over : (4095 < c.pair_at-vars.result) ⊎ (16383 < c.pair_at-clauses.result) =
+    elim c.then-vars-gt4095.either [ inl h ↦ inl (omega arith) | inr h ↦ inr (omega arith) ] in
+    head_over _ _ c.in_ok-head.ensures _ _ c.pair_at-vars.ensures.0 c.pair_at-clauses.ensures.0 over
 
-pub returns-then-clauses-gt16383 : goal.returns-then-clauses-gt16383
-returns-then-clauses-gt16383 c =
-    let e = c.expect-head.ensures FormulaField in
-    head_clauses_over
-    _ _
-    (found FormulaField 1 four _ 0 _ _ (sym c.in-Found.is ∙ e))
-    _ _
-    c.pair_at-vars.ensures.0
-    c.pair_at-clauses.ensures.0
-    c.if-vars-gt4095.false c.if-clauses-gt16383.true
-
-pub returns-else-clauses-gt16383 : goal.returns-else-clauses-gt16383
-returns-else-clauses-gt16383 c =
-    let e = c.expect-head.ensures FormulaField in
-    head_taken
-    _ _
-    (found FormulaField 1 four _ 0 _ _ (sym c.in-Found.is ∙ e))
-    _ _
-    c.pair_at-vars.ensures.0
-    c.pair_at-clauses.ensures.0
-    c.if-vars-gt4095.false c.if-clauses-gt16383.false
-    _
-    (found_next _ _ _ (sym c.in-Found.is ∙ e))
-
-pub returns-in-Wrong : goal.returns-in-Wrong
-returns-in-Wrong c = head_wrong _ (wrong FormulaField 1 four _ 0 (sym c.in-Wrong.is ∙ c.expect-head.ensures FormulaField))
+pub returns : goal.returns
+returns c = head_taken _ _ c.in_ok-head.ensures _ _ c.pair_at-vars.ensures.0 c.pair_at-clauses.ensures.0 (omega arith) (omega arith)

@@ -1,11 +1,8 @@
 -- `all_false` tells whether the literals that are left are all false. The invariant: those passed are. Assumes nothing.
 use mathlib.Core.Path.{◌∙◌}
 use native.Mathlib.Omega.{arith}
-use Rattle.sweep.proofs.Laws.{passed_start, code_range, value_less, unset_left, true_left, passed_false, all_passed}
+use Rattle.sweep.proofs.Laws.{code_range, value_less, unset_left, true_left, passed_false, all_passed}
 use Rattle.sweep.proofs.all_false.Goals as goal
-
-pub loop-code-init : goal.loop-code-init
-loop-code-init c = rw c.into_iter-code-iterator.ensures.into_iter_gives (passed_start _ c.requires.0)
 
 pub value-requires : goal.value-requires
 value-requires c = let r = code_range c.loop-code.invariant c.in-Some.ensures.steps in (omega arith, c.requires.1)

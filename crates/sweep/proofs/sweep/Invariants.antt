@@ -13,7 +13,7 @@ invariant-literals l =
     × Passed 4095 l.initial.t (codes l.initial.literals.bytes.now) (codes l.literals.bytes.now)
 
 abbrev pub invariant-clauses : goal.invariant-clauses
-invariant-clauses l = Held 4095 l.formula l.proof l.words l.initial.t l.p l.k l.t l.count l.clash
+invariant-clauses l = Held 4095 l.live.formula.now l.live.proof.now l.live.words.now l.initial.t l.p l.k l.t l.count l.clash
 
 abbrev pub decreases-clauses : goal.decreases-clauses
-decreases-clauses l = length l.words - l.k
+decreases-clauses l = length l.live.words.now - l.k

@@ -1,5 +1,0 @@
--- `put_digits`: the digits left to write are its measure.
-use Rattle.line.proofs.+put_digits.Given as goal
-
-abbrev pub decreases-put_digits : goal.decreases-put_digits
-decreases-put_digits l = l.k
