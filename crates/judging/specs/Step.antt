@@ -1,66 +1,69 @@
 -- What the code's answers say of a step, by the paper's definitions.
-use Rattle.std.specs.Prelude.{ℕ, suc, ◌<◌, ◌≤◌, ◌≡◌, ◌≢◌, true, false, List, [], map, eqb, length, get_or, set}
-use Rattle.paper.specs.declared.Reason.{Reason}
-use Rattle.paper.specs.declared.Reason.TheVariants.{ProofCode, ProofTwice}
+use Rattle.std.specs.Prelude.{ℕ, suc, ◌<◌, ◌≤◌, ◌≡◌, ◌≢◌, true, false, ◌||◌, List, [], map, eqb, ltb, length, get_or, set, Result, Ok, Err}
+use Rattle.paper.specs.declared.Reason.TheVariants.{ProofCode, ProofTwice, NumbersUsedUp}
 use Rattle.paper.specs.declared.Fields.{Fields}
 use Rattle.paper.specs.Atoms.{Clause, Formula, Witness}
-use Rattle.paper.specs.Files.{File, ok, bad, payload, codes, mappings, Step}
+use Rattle.paper.specs.Files.{File, Read, ok, bad, ◌>>◌, need, payload, codes, mappings, Step}
 use Rattle.paper.specs.Conditions.{without, after}
-use Rattle.paper.specs.Refusals.{no_two, check_clause, read_fields, check_mappings, to_step, read_step}
+use Rattle.paper.specs.Refusals.{no_two, check_clause, read_fields, check_mappings, check_numbers, to_step, read_step}
 use Rattle.paper.specs.Answers.{Outcome, taken, stops, Judged}
 use Rattle.paper.specs.Valid.{Kept, Listed}
 use Rattle.paper.specs.Valid as valid
 use Rattle.lookup.specs.Clause.{proof_word, ClauseTable}
 use Rattle.lookup.specs.Live.{live}
 use Rattle.table.specs.Table.{Zero}
-use Rattle.steps.specs.Steps.{removed}
+use Rattle.field.specs.declared.Fault.{Fault}
+use Rattle.steps.specs.declared.Kind.{Kind}
+use Rattle.steps.specs.declared.StepRead.{StepRead}
+use Rattle.steps.specs.Steps.{tag_of, IsRead, removed}
 use Rattle.loading.specs.Loading.{Images, Inward}
 use Rattle.loading.specs.Loading as loading
-use Rattle.judging.specs.declared.Judgement.{Judgement}
-use Rattle.judging.specs.declared.Judgement.TheVariants.{Passed}
-use Rattle.judging.specs.declared.StepAnswer.{StepAnswer}
-use Rattle.judging.specs.declared.StepAnswer.TheVariants.{Taken}
+use Rattle.judging.specs.declared.Taken.{Taken}
 
 -- the outcome that a judgement of a step with the tag, the new clause C and the numbers ns stands for
-unfoldable pub outcome : Formula → ℕ → ℕ → Clause → List ℕ → Judgement → Outcome
-outcome F next tag C ns Passed = elim (eqb tag 0x14) [ true ↦ taken (without ns F) next | false ↦ taken (after ns next C F) (suc next) ]
-outcome F next tag C ns (Judgement.Stopped reason place) = stops reason place
+unfoldable pub outcome : Formula → ℕ → ℕ → Clause → List ℕ → Result (Unit {0}) Fault → Outcome
+outcome F next tag C ns (Ok u) = elim (eqb tag 0x14) [ true ↦ taken (without ns F) next | false ↦ taken (after ns next C F) (suc next) ]
+outcome F next tag C ns (Err e) = stops e.reason e.place
+
+-- what is refused of a step after its clause and its witness: a number that it names, then the number that its new clause gets
+unfoldable pub rest : File → Formula → ℕ → StepRead → ℕ → Read (Unit {0})
+rest p F at s next = do
+  check_numbers F 0 s.fields.numbers.start (codes (payload p s.fields.numbers))
+  need (eqb (tag_of s.kind) 0x14 || ltb next 16384) NumbersUsedUp at
 
 -- A judgement of a RUP, SR or WSR step is asked: its clause and its numbers are fit to be judged, and so are the live clauses; the table
 -- has room for the variables, none of which has a value.
-pub record New (f p : File) (ws : List ℕ) (tag : ℕ) (clause numbers : List ℕ) (vars next : ℕ) (t : List ℕ) : Type 0 where
-  pub from : 0x11 ≤ tag
-  pub to : tag ≤ 0x13
+pub record New (f p : File) (ws : List ℕ) (kind : Kind) (clause numbers : List ℕ) (vars next : ℕ) (t : List ℕ) : Type 0 where
   pub limit : length ws ≤ 16384
   pub clauses : ClauseTable f p (length ws) ws
   pub kept : Kept vars next (live f p ws)
   pub new : valid.New vars next (codes clause)
   pub listed : Listed (live f p ws) 0 (codes numbers)
-  pub none_listed : tag < 0x13 → codes numbers ≡ []
+  pub none_listed : tag_of kind < 0x13 → codes numbers ≡ []
   pub table : loading.Ready vars t
   pub inward : Inward vars t
 
 -- the judgement is that of the step, for every witness whose images the table holds
-abbrev pub NewJudged : File → File → List ℕ → ℕ → List ℕ → List ℕ → ℕ → ℕ → List ℕ → Judgement → Type 0
-NewJudged f p ws tag clause numbers vars next t r =
+abbrev pub NewJudged : File → File → List ℕ → Kind → List ℕ → List ℕ → ℕ → ℕ → List ℕ → Result (Unit {0}) Fault → Type 0
+NewJudged f p ws kind clause numbers vars next t r =
     (s : Witness) → Images t s
-    → Judged (live f p ws) next (to_step tag (codes clause) s (codes numbers)) (outcome (live f p ws) next tag (codes clause) (codes numbers) r)
+    → Judged (live f p ws) next (to_step (tag_of kind) (codes clause) s (codes numbers)) (outcome (live f p ws) next (tag_of kind) (codes clause) (codes numbers) r)
 
 -- What the judgement of a step's fields says: the step is refused as it is read, or it is read and judged.
-pub data JudgementIs (proof : File) (vars : ℕ) (F : Formula) (next at : ℕ) (x : Fields) : Judgement → Type 0 where
-  unread : {r : Reason} {p : ℕ} → read_step proof vars F next at ≡ bad r p → JudgementIs proof vars F next at x (Judgement.Stopped r p)
-  judged : {t : Step} {j : Judgement} → read_step proof vars F next at ≡ ok (t, x.next) → (get_or proof at 0 ≢ 0x14 → next < 16384)
+pub data JudgementIs (proof : File) (vars : ℕ) (F : Formula) (next at : ℕ) (x : Fields) : Result (Unit {0}) Fault → Type 0 where
+  unread : {e : Fault} → read_step proof vars F next at ≡ bad e.reason e.place → JudgementIs proof vars F next at x (Err e)
+  judged : {t : Step} {j : Result (Unit {0}) Fault} → read_step proof vars F next at ≡ ok (t, x.next) → (get_or proof at 0 ≢ 0x14 → next < 16384)
       → Listed F 0 (codes (payload proof x.numbers))
       → Judged F next t (outcome F next (get_or proof at 0) (codes (payload proof x.clause)) (codes (payload proof x.numbers)) j)
       → JudgementIs proof vars F next at x j
 
 -- The step at a place has that answer, and leaves G live; one that is refused leaves what was.
-pub data StepIs (proof : File) (vars : ℕ) (F : Formula) (next at : ℕ) : StepAnswer → Formula → Type 0 where
-  unread : {r : Reason} {p : ℕ} → read_step proof vars F next at ≡ bad r p → StepIs proof vars F next at (StepAnswer.Stopped r p) F
-  refused : {t : Step} {later : ℕ} {r : Reason} {p : ℕ} → read_step proof vars F next at ≡ ok (t, later) → Judged F next t (stops r p)
-      → StepIs proof vars F next at (StepAnswer.Stopped r p) F
+pub data StepIs (proof : File) (vars : ℕ) (F : Formula) (next at : ℕ) : Result Taken Fault → Formula → Type 0 where
+  unread : {e : Fault} → read_step proof vars F next at ≡ bad e.reason e.place → StepIs proof vars F next at (Err e) F
+  refused : {t : Step} {later : ℕ} {e : Fault} → read_step proof vars F next at ≡ ok (t, later) → Judged F next t (stops e.reason e.place)
+      → StepIs proof vars F next at (Err e) F
   goes_on : {t : Step} {later m : ℕ} {G : Formula} → read_step proof vars F next at ≡ ok (t, later) → Judged F next t (taken G m)
-      → StepIs proof vars F next at (Taken m (record { at = later })) G
+      → StepIs proof vars F next at (Ok (record { next = m; later = record { at = later } })) G
 
 -- What is asked of a step's place, of the clause table and of the table of variables: nothing that a caller does not know from the step
 -- before.
@@ -94,30 +97,30 @@ pub record AfterTaken (f p : File) (at next : ℕ) (words : List ℕ) (m : ℕ) 
   pub clauses : ClauseTable f p m words'
 
 -- and after any answer: a step that is refused leaves it as it was
-abbrev pub After : File → File → ℕ → ℕ → StepAnswer → List ℕ → List ℕ → Type 0
-After f p at next (StepAnswer.Stopped reason place) words words' = words' ≡ words
-After f p at next (Taken m later) words words' = AfterTaken f p at next words m words'
+abbrev pub After : File → File → ℕ → ℕ → Result Taken Fault → List ℕ → List ℕ → Type 0
+After f p at next (Err e) words words' = words' ≡ words
+After f p at next (Ok s) words words' = AfterTaken f p at next words s.next words'
 
-pub record Done (f p : File) (at vars next : ℕ) (words t : List ℕ) (r : StepAnswer) (words' t' : List ℕ) : Type 0 where
+pub record Done (f p : File) (at vars next : ℕ) (words t : List ℕ) (r : Result Taken Fault) (words' t' : List ℕ) : Type 0 where
   pub answer : StepIs p vars (live f p words) next at r (live f p words')
   pub after : After f p at next r words words'
   pub table : t' ≡ t
 
--- the fields of the step were read
-pub record Checkable (f p : File) (at : ℕ) (x : Fields) (vars next : ℕ) (words t : List ℕ) : Type 0 where
+-- the step was read
+pub record Checkable (f p : File) (at : ℕ) (s : StepRead) (vars next : ℕ) (words t : List ℕ) : Type 0 where
   pub ready : Ready f p at vars next words t
-  pub fields : read_fields p at ≡ ok x
+  pub read : IsRead p at s
 
 -- its clause and its witness were checked, and the witness is loaded
-pub record Loadable (f p : File) (at : ℕ) (x : Fields) (vars next : ℕ) (words t : List ℕ) : Type 0 where
+pub record Loadable (f p : File) (at : ℕ) (s : StepRead) (vars next : ℕ) (words t : List ℕ) : Type 0 where
   pub place : at < length p
   pub last : next ≤ 16384
   pub words_long : length words ≡ 16384
   pub clauses : ClauseTable f p next words
   pub kept : Kept vars next (live f p words)
-  pub fields : read_fields p at ≡ ok x
-  pub clause : check_clause ProofCode ProofTwice vars x.clause.start (codes (payload p x.clause)) ≡ ok tt
-  pub mapped : check_mappings vars x.witness.start (mappings (codes (payload p x.witness))) ≡ ok tt
-  pub once : no_two ProofTwice [] 4 x.witness.start (map (λ (m : ℕ × ℕ). m.0) (mappings (codes (payload p x.witness)))) ≡ ok tt
+  pub read : IsRead p at s
+  pub clause : check_clause ProofCode ProofTwice vars s.fields.clause.start (codes (payload p s.fields.clause)) ≡ ok tt
+  pub mapped : check_mappings vars s.fields.witness.start (mappings (codes (payload p s.fields.witness))) ≡ ok tt
+  pub once : no_two ProofTwice [] 4 s.fields.witness.start (map (λ (m : ℕ × ℕ). m.0) (mappings (codes (payload p s.fields.witness)))) ≡ ok tt
   pub table : loading.Ready vars t
-  pub images : Images t (mappings (codes (payload p x.witness)))
+  pub images : Images t (mappings (codes (payload p s.fields.witness)))

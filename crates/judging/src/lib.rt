@@ -1,40 +1,16 @@
 // One step of a proof: its fields read, checked in the paper's order, judged, and taken into the clause table.
 #![tactic(auto)]
 
-ghost use Rattle.std.specs.Prelude.{◌≡◌, ℕ, ◌+◌, ◌≤◌, length};
-ghost use Rattle.paper.specs.Files.{payload};
+ghost use Rattle.std.specs.Prelude.{◌≡◌, ◌+◌, ◌≤◌, length};
+ghost use Rattle.paper.specs.Files.{File};
+ghost use Rattle.field.specs.Field.{result_of};
 ghost use Rattle.lookup.specs.Live.{live};
-ghost use Rattle.judging.specs.Step.{New, NewJudged, Checkable, Loadable, JudgementIs, Ready, Done};
+ghost use Rattle.steps.specs.declared.Kind.TheVariants.{Rup, Sr, Wsr};
+ghost use Rattle.judging.specs.Step.{rest, New, NewJudged, Checkable, Loadable, JudgementIs, Ready, Done};
 
-use clauses::ClauseCheck;
-use conditions::Failing;
-use field::Cursor;
-use mapping::Loaded;
-use paper::{Extent, Fields, Reason};
-use steps::{Checked, FieldsRead};
-
-// What the conditions say of a step that was read.
-#[derive(Clone, Copy)]
-pub enum Judgement {
-    Passed,
-    Stopped { reason: Reason, place: usize },
-}
-
-fn stopped(reason: Reason, place: usize) -> Judgement
-    ensures { result ≡ Judgement.Stopped reason place }
-{
-    Judgement::Stopped { reason, place }
-}
-
-// The payload of a field.
-fn part(s: &[u8], e: Extent) -> &[u8]
-    requires { e.start + e.size ≤ length s.now }
-    ensures { result.now ≡ payload s.now e }
-{
-    let start = e.start;
-    let end = start + e.size;
-    &s[start..end]
-}
+use field::{Cursor, Fault};
+use paper::Reason;
+use steps::{Kind, StepRead};
 
 // "RUP step: not RUP" is 13.
 fn judge_rup<'a>(
@@ -46,15 +22,18 @@ fn judge_rup<'a>(
     vars: usize,
     next: usize,
     t: &mut [u8],
-) -> Judgement
-    requires { New formula.now proof.now words.now 0x11 clause.now numbers.now vars next t.old }
-    ensures answer { NewJudged formula.now proof.now words.now 0x11 clause.now numbers.now vars next t.old result }
+) -> Result<(), Fault>
+    requires { New formula.now proof.now words.now Rup clause.now numbers.now vars next t.old }
+    ensures answer { NewJudged formula.now proof.now words.now Rup clause.now numbers.now vars next t.old result }
     ensures table { t.new ≡ t.old }
 {
     if conditions::is_rup(formula, proof, words, clause, vars, t) {
-        return Judgement::Passed;
+        return Ok(());
     }
-    stopped(Reason::NotRup, 0)
+    Err(Fault {
+        reason: Reason::NotRup,
+        place: 0,
+    })
 }
 
 // "SR step: C not trivialised" is 14, then "a clause doesn't pass" is 15.
@@ -67,17 +46,23 @@ fn judge_sr<'a>(
     vars: usize,
     next: usize,
     t: &mut [u8],
-) -> Judgement
-    requires { New formula.now proof.now words.now 0x12 clause.now numbers.now vars next t.old }
-    ensures answer { NewJudged formula.now proof.now words.now 0x12 clause.now numbers.now vars next t.old result }
+) -> Result<(), Fault>
+    requires { New formula.now proof.now words.now Sr clause.now numbers.now vars next t.old }
+    ensures answer { NewJudged formula.now proof.now words.now Sr clause.now numbers.now vars next t.old result }
     ensures table { t.new ≡ t.old }
 {
     if !loading::trivialises(clause, t) {
-        return stopped(Reason::NotTrivialised, 0);
+        return Err(Fault {
+            reason: Reason::NotTrivialised,
+            place: 0,
+        });
     }
     match conditions::lowest_failing(formula, proof, words, clause, numbers, vars, t) {
-        Failing::At(n) => stopped(Reason::NotPassing, n),
-        Failing::Nothing => Judgement::Passed,
+        Some(n) => Err(Fault {
+            reason: Reason::NotPassing,
+            place: n,
+        }),
+        None => Ok(()),
     }
 }
 
@@ -91,85 +76,73 @@ fn judge_wsr<'a>(
     vars: usize,
     next: usize,
     t: &mut [u8],
-) -> Judgement
-    requires { New formula.now proof.now words.now 0x13 clause.now numbers.now vars next t.old }
-    ensures answer { NewJudged formula.now proof.now words.now 0x13 clause.now numbers.now vars next t.old result }
+) -> Result<(), Fault>
+    requires { New formula.now proof.now words.now Wsr clause.now numbers.now vars next t.old }
+    ensures answer { NewJudged formula.now proof.now words.now Wsr clause.now numbers.now vars next t.old result }
     ensures table { t.new ≡ t.old }
 {
-    if let Failing::At(n) = conditions::lowest_failing(
-        formula, proof, words, clause, numbers, vars, t,
-    ) {
-        return stopped(Reason::NotPassing, n);
+    if let Some(n) = conditions::lowest_failing(formula, proof, words, clause, numbers, vars, t) {
+        return Err(Fault {
+            reason: Reason::NotPassing,
+            place: n,
+        });
     }
     if conditions::passes(formula, proof, words, clause, clause, vars, t) {
-        return Judgement::Passed;
+        return Ok(());
     }
-    stopped(Reason::NotPassing, next)
+    Err(Fault {
+        reason: Reason::NotPassing,
+        place: next,
+    })
 }
 
-fn judge_new<'a>(
-    formula: &'a [u8],
-    proof: &'a [u8],
-    words: &[u32],
-    tag: u8,
-    clause: &'a [u8],
-    numbers: &'a [u8],
-    vars: usize,
+// The numbers that a step names (11), then the one that its new clause gets (12).
+fn check_rest(
+    proof: &[u8],
+    first: Cursor,
+    s: StepRead,
     next: usize,
-    t: &mut [u8],
-) -> Judgement
-    requires { New formula.now proof.now words.now tag clause.now numbers.now vars next t.old }
-    ensures answer { NewJudged formula.now proof.now words.now tag clause.now numbers.now vars next t.old result }
-    ensures table { t.new ≡ t.old }
+    words: &[u32],
+) -> Result<(), Fault>
+    requires { s.fields.numbers.start + s.fields.numbers.size ≤ length proof.now }
+    ensures { (f : File) → result ≡ result_of (rest proof.now (live f proof.now words.now) first.at s next) }
 {
-    if tag == 0x11 {
-        return judge_rup(formula, proof, words, clause, numbers, vars, next, t);
+    steps::check_numbers(proof, s.fields.numbers, words)?;
+    match s.kind {
+        Kind::Delete => Ok(()),
+        _ if next < 16384 => Ok(()),
+        _ => Err(Fault {
+            reason: Reason::NumbersUsedUp,
+            place: first.at,
+        }),
     }
-    if tag == 0x12 {
-        return judge_sr(formula, proof, words, clause, numbers, vars, next, t);
-    }
-    judge_wsr(formula, proof, words, clause, numbers, vars, next, t)
 }
 
-// The numbers (11), the new clause's own number (12), then the conditions; the witness's images stand in the table.
+// The numbers (11, 12), then the conditions; the witness's images stand in the table.
 fn judge_loaded<'a>(
     formula: &'a [u8],
     proof: &'a [u8],
     first: Cursor,
-    x: Fields,
+    s: StepRead,
     vars: usize,
     next: usize,
     words: &[u32],
     t: &mut [u8],
-) -> Judgement
-    requires { Loadable formula.now proof.now first.at x vars next words.now t.old }
-    ensures answer { JudgementIs proof.now vars (live formula.now proof.now words.now) next first.at x result }
+) -> Result<(), Fault>
+    requires { Loadable formula.now proof.now first.at s vars next words.now t.old }
+    ensures answer { JudgementIs proof.now vars (live formula.now proof.now words.now) next first.at s.fields result }
     ensures table { t.new ≡ t.old }
 {
-    let n = x.numbers;
-    if let Checked::At(place) = steps::check_numbers(proof, n, words) {
-        return stopped(Reason::NumberNotLive, place);
+    check_rest(proof, first, s, next, words)?;
+    let used = &words[..next];
+    let clause = field::payload(proof, s.fields.clause);
+    let numbers = field::payload(proof, s.fields.numbers);
+    match s.kind {
+        Kind::Rup => judge_rup(formula, proof, used, clause, numbers, vars, next, t),
+        Kind::Sr => judge_sr(formula, proof, used, clause, numbers, vars, next, t),
+        Kind::Wsr => judge_wsr(formula, proof, used, clause, numbers, vars, next, t),
+        Kind::Delete => Ok(()),
     }
-    let tag = reader::tag_at(proof, first);
-    if tag == 0x14 {
-        return Judgement::Passed;
-    }
-    if 16384 <= next {
-        return stopped(Reason::NumbersUsedUp, first.at);
-    }
-    let c = x.clause;
-    let used = &words[0..next];
-    judge_new(
-        formula,
-        proof,
-        used,
-        tag,
-        part(proof, c),
-        part(proof, n),
-        vars,
-        next,
-        t,
-    )
 }
 
 // The clause (9, 10), the witness (9, 10), then the rest with the witness's images in the table, which are cleared again.
@@ -177,44 +150,43 @@ fn judge_fields<'a>(
     formula: &'a [u8],
     proof: &'a [u8],
     first: Cursor,
-    x: Fields,
+    s: StepRead,
     vars: usize,
     next: usize,
     words: &[u32],
     t: &mut [u8],
-) -> Judgement
-    requires { Checkable formula.now proof.now first.at x vars next words.now t.old }
-    ensures answer { JudgementIs proof.now vars (live formula.now proof.now words.now) next first.at x result }
+) -> Result<(), Fault>
+    requires { Checkable formula.now proof.now first.at s vars next words.now t.old }
+    ensures answer { JudgementIs proof.now vars (live formula.now proof.now words.now) next first.at s.fields result }
     ensures table { t.new ≡ t.old }
 {
-    let c = x.clause;
-    match clauses::check_clause(proof, c, vars, t) {
-        ClauseCheck::Range(place) => {
-            return stopped(Reason::ProofCode, place);
-        }
-        ClauseCheck::Twice(place) => {
-            return stopped(Reason::ProofTwice, place);
-        }
-        ClauseCheck::Fine => {}
+    clauses::check_clause(
+        proof,
+        s.fields.clause,
+        vars,
+        Reason::ProofCode,
+        Reason::ProofTwice,
+        t,
+    )?;
+    let w = s.fields.witness;
+    steps::check_mappings(proof, w, vars)?;
+    let witness = field::payload(proof, w);
+    if let Err(i) = mapping::load_witness(witness, t) {
+        return Err(Fault {
+            reason: Reason::ProofTwice,
+            place: w.start + i,
+        });
     }
-    let w = x.witness;
-    if let Checked::At(place) = steps::check_mappings(proof, w, vars) {
-        return stopped(Reason::ProofCode, place);
-    }
-    let witness = part(proof, w);
-    if let Loaded::Twice(i) = mapping::load_witness(witness, t) {
-        return stopped(Reason::ProofTwice, w.start + i);
-    }
-    let r = judge_loaded(formula, proof, first, x, vars, next, words, t);
+    let judgement = judge_loaded(formula, proof, first, s, vars, next, words, t);
     mapping::unload_witness(witness, t);
-    r
+    judgement
 }
 
 // A step that is taken leaves the next number and the cursor past it.
 #[derive(Clone, Copy)]
-pub enum StepAnswer {
-    Taken { next: usize, later: Cursor },
-    Stopped { reason: Reason, place: usize },
+pub struct Taken {
+    pub next: usize,
+    pub later: Cursor,
 }
 
 pub fn take_step<'a>(
@@ -225,32 +197,22 @@ pub fn take_step<'a>(
     next: usize,
     words: &mut [u32],
     t: &mut [u8],
-) -> StepAnswer
+) -> Result<Taken, Fault>
     requires { Ready formula.now proof.now first.at vars next words.old t.old }
     ensures { Done formula.now proof.now first.at vars next words.old t.old result words.new t.new }
 {
-    match steps::read_fields(proof, first) {
-        FieldsRead::Bad(place) => StepAnswer::Stopped {
-            reason: Reason::ProofField,
-            place,
-        },
-        FieldsRead::Whole {
-            fields: x,
-            next: later,
-        } => match judge_fields(formula, proof, first, x, vars, next, words, t) {
-            Judgement::Stopped { reason, place } => StepAnswer::Stopped { reason, place },
-            Judgement::Passed => {
-                let n = x.numbers;
-                steps::remove_numbers(proof, n, words);
-                if reader::tag_at(proof, first) == 0x14 {
-                    return StepAnswer::Taken { next, later };
-                }
-                lookup::enter(words, next, lookup::proof_word(first.at));
-                StepAnswer::Taken {
-                    next: next + 1,
-                    later,
-                }
-            }
-        },
+    let s = steps::read_fields(proof, first)?;
+    judge_fields(formula, proof, first, s, vars, next, words, t)?;
+    steps::remove_numbers(proof, s.fields.numbers, words);
+    let later = s.next;
+    match s.kind {
+        Kind::Delete => Ok(Taken { next, later }),
+        _ => {
+            lookup::enter(words, next, lookup::proof_word(first.at));
+            Ok(Taken {
+                next: next + 1,
+                later,
+            })
+        }
     }
 }

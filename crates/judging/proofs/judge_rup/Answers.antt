@@ -3,9 +3,8 @@
 use Rattle.judging.proofs.Conditions.{rup_passed, rup_stopped}
 use Rattle.judging.proofs.judge_rup.Goals as goal
 
-pub returns-then-is_rup : goal.returns-then-is_rup
-returns-then-is_rup c = record { answer = rup_passed c.requires c.is_rup.ensures.answer c.if-is_rup.true; table = c.is_rup.ensures.table }
+pub returns-then-is_rup-clause-answer : goal.returns-then-is_rup-clause-answer
+returns-then-is_rup-clause-answer c = rup_passed c.requires c.is_rup.ensures.answer c.if-is_rup.true
 
-pub returns : goal.returns
-returns c =
-    record { answer = rw c.stopped.ensures (rup_stopped c.requires c.is_rup.ensures.answer c.if-is_rup.false); table = c.is_rup.ensures.table }
+pub returns-clause-answer : goal.returns-clause-answer
+returns-clause-answer c = rup_stopped c.requires c.is_rup.ensures.answer c.if-is_rup.false

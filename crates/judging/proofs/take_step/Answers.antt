@@ -1,63 +1,52 @@
 -- `judging::take_step` meets its contract.
 -- Assumes nothing.
-use mathlib.Core.Path.{sym, ap, ◌∙◌}
+use mathlib.Core.Path.{ap, ◌∙◌}
 use native.Mathlib.Omega.{arith}
 use lib.ListN.{length}
-use Rattle.steps.proofs.Fields.{lie, whole, whole_next, refused}
+use Rattle.std.proofs.lemmas.Result.{err_from_is_err_and}
+use Rattle.steps.proofs.Fields.{lie}
 use Rattle.steps.proofs.Numbers.{removed_length}
 use Rattle.steps.proofs.Step.{numbers_of}
 use Rattle.judging.proofs.Laws.{fields_stop, step_stopped, numbers_used, deleted_done, number_free, added_done}
 use Rattle.judging.proofs.take_step.Goals as goal
 
+pub returns-in_err-s : goal.returns-in_err-s
+returns-in_err-s c =
+    let p = err_from_is_err_and c.from_residual.result c.from_residual.ensures.1 in
+    rw (p.1, p.2) (fields_stop c.requires _ c.in_err-s.ensures)
+
 pub judge_fields-requires : goal.judge_fields-requires
-judge_fields-requires c =
-    record { ready = c.requires; fields = whole _ _ _ _ (sym c.in-Whole.is ∙ c.read_fields.ensures) }
+judge_fields-requires c = record { ready = c.requires; read = c.in_ok-s.ensures }
+
+pub returns-in_err-judge_fields : goal.returns-in_err-judge_fields
+returns-in_err-judge_fields c =
+    let p = err_from_is_err_and c.from_residual-in_err-judge_fields.result c.from_residual-in_err-judge_fields.ensures.1 in
+    rw (p.1, p.2) (step_stopped c.requires _ c.in_ok-s.ensures _ c.judge_fields.ensures.table _ c.in_err-judge_fields.ensures.answer)
 
 pub remove_numbers-requires : goal.remove_numbers-requires
 remove_numbers-requires c =
-    let read = whole _ _ _ _ (sym c.in-Whole.is ∙ c.read_fields.ensures) in
-    let passed = rw c.in-Passed.is at c.judge_fields.ensures.answer in
     let ready = c.requires in
-    let i = lie c.args.proof.now c.args.first.at c.in-Whole.x read in
-    let used = numbers_used ready c.in-Whole.x _ c.judge_fields.ensures.table passed in
-    (i.numbers_within, (i.numbers_even, (omega (arith, ready.words_long), λ n q. omega (arith, used n q, ready.last, ready.words_long))))
+    let i = lie _ _ _ c.in_ok-s.ensures.fields in
+    let used = numbers_used ready _ c.in_ok-s.ensures _ c.judge_fields.ensures.table c.in_ok-judge_fields.ensures.answer in
+    (i.numbers_within, (omega (arith, ready.words_long), λ n q. omega (arith, used n q, ready.last, ready.words_long)))
 
-pub returns-then-tag_at-eq20 : goal.returns-then-tag_at-eq20
-returns-then-tag_at-eq20 c =
-    let read = whole _ _ _ _ (sym c.in-Whole.is ∙ c.read_fields.ensures) in
-    let past = whole_next _ _ _ _ (sym c.in-Whole.is ∙ c.read_fields.ensures) in
-    let passed = rw c.in-Passed.is at c.judge_fields.ensures.answer in
-    deleted_done c.requires c.in-Whole.x _ c.judge_fields.ensures.table passed read _ past _
-    c.remove_numbers.ensures (sym c.tag_at.ensures ∙ c.if-tag_at-eq20.true)
+pub returns-in-Delete : goal.returns-in-Delete
+returns-in-Delete c =
+    deleted_done c.requires _ c.in_ok-s.ensures _ c.judge_fields.ensures.table c.in_ok-judge_fields.ensures.answer _ c.remove_numbers.ensures c.in-Delete.is
 
 pub proof_word-requires : goal.proof_word-requires
-proof_word-requires c =
-    omega (arith, c.requires.place, c.requires.proof_short)
+proof_word-requires c = omega (arith, c.requires.place, c.requires.proof_short)
 
 pub enter-requires : goal.enter-requires
 enter-requires c =
-    let passed = rw c.in-Passed.is at c.judge_fields.ensures.answer in
     let ready = c.requires in
-    let free = number_free ready c.in-Whole.x _ c.judge_fields.ensures.table passed (λ e. c.if-tag_at-eq20.false (c.tag_at.ensures ∙ e)) in
-    let long = ap length c.remove_numbers.ensures ∙ removed_length (numbers_of c.args.proof.now c.in-Whole.x) c.args.words.now in
+    let free = number_free ready _ c.in_ok-s.ensures _ c.judge_fields.ensures.table c.in_ok-judge_fields.ensures.answer c.in_default.not-Delete in
+    let long = ap length c.remove_numbers.ensures ∙ removed_length (numbers_of c.args.proof.now c.in_ok-s.s.fields) c.args.words.now in
     omega (arith, long, free, ready.words_long)
 
 pub overflow_add-result : goal.overflow_add-result
-overflow_add-result c =
-    omega (arith, c.requires.last)
+overflow_add-result c = omega (arith, c.requires.last)
 
-pub returns-in-Bad : goal.returns-in-Bad
-returns-in-Bad c =
-    fields_stop c.requires (refused _ _ _ (sym c.in-Bad.is ∙ c.read_fields.ensures))
-
-pub returns-in-Stopped : goal.returns-in-Stopped
-returns-in-Stopped c =
-    step_stopped c.requires c.in-Whole.x _ c.judge_fields.ensures.table (rw c.in-Stopped.is at c.judge_fields.ensures.answer)
-
-pub returns-else-tag_at-eq20 : goal.returns-else-tag_at-eq20
-returns-else-tag_at-eq20 c =
-    let read = whole _ _ _ _ (sym c.in-Whole.is ∙ c.read_fields.ensures) in
-    let past = whole_next _ _ _ _ (sym c.in-Whole.is ∙ c.read_fields.ensures) in
-    let passed = rw c.in-Passed.is at c.judge_fields.ensures.answer in
-    added_done c.requires c.in-Whole.x _ c.judge_fields.ensures.table passed read _ past _
-    c.remove_numbers.ensures (λ z. c.if-tag_at-eq20.false (c.tag_at.ensures ∙ z)) _ _ c.enter.ensures c.proof_word.ensures
+pub returns-in_default : goal.returns-in_default
+returns-in_default c =
+    added_done c.requires _ c.in_ok-s.ensures _ c.judge_fields.ensures.table c.in_ok-judge_fields.ensures.answer _ c.remove_numbers.ensures c.in_default.not-Delete _ _ c.enter.ensures c.proof_word.ensures
