@@ -14,27 +14,19 @@ use Rattle.paper.specs.Answers.{refused, Steps, Answer, file_long, formula_bad, 
 use Rattle.paper.proofs.Reading.{Then, FormulaWasRead, read_formula_kept}
 use Rattle.lookup.specs.Live.{live}
 use Rattle.table.proofs.Kept.{replicate_zero}
-use Rattle.reading.specs.declared.FormulaRead.{FormulaRead}
-use Rattle.reading.specs.declared.FormulaRead.TheVariants.{Whole, Bad}
-use Rattle.reading.specs.Reading.{FormulaTaken, FormulaSaid}
+use Rattle.reading.specs.Reading.{FormulaTaken, FormulaRefused}
 use Rattle.answers.specs.Run.{Start, Clear}
 
 -- 2: a file is too long
-pub long_said : {v : Verdict} {f p : File} → (1048576 < length f) ⊎ (1048576 < length p) → v ≡ refused FileLong 0 0
-    → (w b : ℕ) → 16384 ≤ w → 8192 ≤ b → Answer w b f p v
-long_said {f = f} {p = p} h e w b hw hb = rw e (file_long hw hb h)
+pub long_said : {f p : File} → (1048576 < length f) ⊎ (1048576 < length p) → (w b : ℕ) → 16384 ≤ w → 8192 ≤ b → Answer w b f p (refused FileLong 0 0)
+long_said h w b hw hb = file_long hw hb h
 
-module _ (f p : File) (words : List ℕ) (hf : length f ≤ 1048576) (hp : length p ≤ 1048576) (r : FormulaRead) (after : List ℕ)
-    (said : FormulaSaid f words after r) where
+module _ (f p : File) (words : List ℕ) (hf : length f ≤ 1048576) (hp : length p ≤ 1048576) (after : List ℕ) where
   -- the formula is refused
-  pub formula_said : (why : Reason) (q : ℕ) → r ≡ Bad why q → (w b : ℕ) → 16384 ≤ w → 8192 ≤ b → Answer w b f p (refused why 0 q)
-  formula_said why q e w b hw hb =
-      formula_bad (record { words_enough = hw; bytes_enough = hb; formula_short = hf; proof_short = hp }) (subst (FormulaSaid f words after) e said).read
+  pub formula_said : (why : Reason) (q : ℕ) → FormulaRefused f why q words after → (w b : ℕ) → 16384 ≤ w → 8192 ≤ b → Answer w b f p (refused why 0 q)
+  formula_said why q x w b hw hb = formula_bad (record { words_enough = hw; bytes_enough = hb; formula_short = hf; proof_short = hp }) x.read
 
-  module _ (vars next : ℕ) (e : r ≡ Whole vars next) where
-    whole : FormulaTaken f vars next words after
-    whole = subst (FormulaSaid f words after) e said
-
+  module _ (vars next : ℕ) (whole : FormulaTaken f vars next words after) where
     -- it is read, and the steps start
     pub start : (t u : List ℕ) → Clear words t → u ≡ t → Start f p vars next after u
     start t u c same =

@@ -7,7 +7,6 @@ use mathlib.Core.List.{List}
 use native.Mathlib.Omega.{arith}
 use native.Mathlib.Numerals.{add-one}
 use lib.ListN.{length, get_or, take}
-use Rattle.paper.specs.declared.Reason.{Reason}
 use Rattle.paper.specs.declared.Verdict.{Verdict}
 use Rattle.paper.specs.declared.Verdict.TheVariants.{Refuted, Held}
 use Rattle.paper.specs.Atoms.{Formula}
@@ -17,9 +16,11 @@ use Rattle.paper.specs.Answers.{refused, Steps, refuted, held}
 use Rattle.paper.specs.Answers as answers
 use Rattle.paper.proofs.Reading.{Then, StepWasRead, read_step_seen}
 use Rattle.paper.proofs.Judging.{judged_kept}
+use Rattle.lookup.specs.Clause.{ClauseTable}
 use Rattle.lookup.specs.Live.{live, EmptyLive}
-use Rattle.lookup.proofs.Table.{used_live}
-use Rattle.judging.specs.declared.StepAnswer.TheVariants.{Taken, Stopped}
+use Rattle.lookup.proofs.Table.{used_live, used_table}
+use Rattle.std.proofs.Common.{Ok, Err}
+use Rattle.field.specs.declared.Fault.{Fault}
 use Rattle.judging.specs.Step.{Ready, Done, StepIs}
 use Rattle.judging.specs.Step as step
 use Rattle.answers.specs.Run.{Start}
@@ -55,17 +56,17 @@ module _ {f p : File} {vars first : ℕ} {F : Formula} {words t : List ℕ} {at 
   seen s later e =
       subst (Then (λ (x : Step × ℕ). StepWasRead p vars (live f p words) next at x.0 x.1)) e (read_step_seen p vars (live f p words) next at)
 
-  pub taken_further : {m later : ℕ} {words' t' : List ℕ} → Done f p at vars next words t (Taken m (record { at = later })) words' t' → (at < later) × (later ≤ length p)
+  pub taken_further : {m later : ℕ} {words' t' : List ℕ} → Done f p at vars next words t (Ok (record { next = m; later = record { at = later } })) words' t' → (at < later) × (later ≤ length p)
   taken_further d = go d.answer
     where
-      go : {a b : ℕ} {G : Formula} → StepIs p vars (live f p words) next at (Taken a (record { at = b })) G → (at < b) × (b ≤ length p)
+      go : {a b : ℕ} {G : Formula} → StepIs p vars (live f p words) next at (Ok (record { next = a; later = record { at = b } })) G → (at < b) × (b ≤ length p)
       go (step.goes_on {t = s} {later = l} e j) = let r = seen s l e in (r.further, r.inside)
 
-  pub going_on : at < length p → {m later : ℕ} {words' t' : List ℕ} → Done f p at vars next words t (Taken m (record { at = later })) words' t'
+  pub going_on : at < length p → {m later : ℕ} {words' t' : List ℕ} → Done f p at vars next words t (Ok (record { next = m; later = record { at = later } })) words' t'
       → Going f p vars first F words' t' later m (done + 1)
   going_on h {m} {later} {words'} {t'} d = go d.answer (taken_further d)
     where
-      go : StepIs p vars (live f p words) next at (Taken m (record { at = later })) (live f p words') → (at < later) × (later ≤ length p)
+      go : StepIs p vars (live f p words) next at (Ok (record { next = m; later = record { at = later } })) (live f p words') → (at < later) × (later ≤ length p)
           → Going f p vars first F words' t' later m (done + 1)
       go (step.goes_on {t = s} e j) far =
           let r = seen s later e in
@@ -87,20 +88,26 @@ module _ {f p : File} {vars first : ℕ} {F : Formula} {words t : List ℕ} {at 
             leads = λ v x. g.leads v (answers.goes_on h e j (rw add-one at x));
           }
 
-  pub stopped : at < length p → {r : Reason} {q : ℕ} {words' t' : List ℕ} → Done f p at vars next words t (Stopped r q) words' t'
-      → Steps p vars F first 0 0 (refused r (done + 1) q)
-  stopped h {r} {q} d = go d.answer
+  pub stopped : at < length p → {b : Fault} {words' t' : List ℕ} → Done f p at vars next words t (Err b) words' t'
+      → Steps p vars F first 0 0 (refused b.reason (done + 1) b.place)
+  stopped h {b} d = go d.answer
     where
-      go : {G : Formula} → StepIs p vars (live f p words) next at (Stopped r q) G → Steps p vars F first 0 0 (refused r (done + 1) q)
+      go : {G : Formula} → StepIs p vars (live f p words) next at (Err b) G → Steps p vars F first 0 0 (refused b.reason (done + 1) b.place)
       go (step.unread e) = rw add-one (g.leads _ (answers.unread h e))
       go (step.refused e j) = rw add-one (g.leads _ (answers.judged h e j))
 
   -- the numbers in use hold all live clauses
-  used : live f p (take (next - 0) words) ≡ live f p words
-  used = used_live g.now.clauses
+  all_used : take (next - 0) words ≡ take next words
+  all_used = let e : next - 0 ≡ next = omega arith in rw e
 
-  pub end_refuted : length p ≤ at → {b : Bool} → EmptyLive f p (take (next - 0) words) b → b ≡ true → Steps p vars F first 0 0 (Refuted done)
+  used : live f p (take next words) ≡ live f p words
+  used = rw all_used at (used_live g.now.clauses)
+
+  pub used_clauses : ClauseTable f p (length (take next words)) (take next words)
+  used_clauses = rw all_used at (used_table g.now.clauses (omega (arith, g.now.last, g.now.words_long)))
+
+  pub end_refuted : length p ≤ at → {b : Bool} → EmptyLive f p (take next words) b → b ≡ true → Steps p vars F first 0 0 (Refuted done)
   end_refuted h x e = let y = x.some e in g.leads _ (refuted {n = y.0} h (rw used at y.1))
 
-  pub end_held : length p ≤ at → {b : Bool} → EmptyLive f p (take (next - 0) words) b → b ≡ false → Steps p vars F first 0 0 (Held done)
+  pub end_held : length p ≤ at → {b : Bool} → EmptyLive f p (take next words) b → b ≡ false → Steps p vars F first 0 0 (Held done)
   end_held h x e = g.leads _ (held h (rw used at (x.none e)))

@@ -2,14 +2,13 @@
 #![tactic(auto)]
 
 ghost use Rattle.std.specs.Prelude.{◌≡◌, ℕ, ◌≤◌, length, replicate};
-ghost use Rattle.paper.specs.Answers.{Answer, Steps, refused};
+ghost use Rattle.paper.specs.Answers.{Answer, Steps};
 ghost use Rattle.lookup.specs.Live.{live};
 ghost use Rattle.answers.specs.Run.{Start, Clear};
 
 use field::Cursor;
-use judging::StepAnswer;
-use paper::{Reason, Refusal, Verdict};
-use reading::FormulaRead;
+use lookup::Clauses;
+use paper::{Reason, Verdict};
 
 // The steps from the first on, to the first that is refused or to the proof's end.
 fn run_steps<'a>(
@@ -26,37 +25,27 @@ fn run_steps<'a>(
     let mut c = Cursor { at: 0 };
     let mut next = first;
     let mut done: usize = 0;
+    // No `for`: each step tells where the next one begins.
     while c.at < proof.len() {
         match judging::take_step(formula, proof, c, vars, next, words, t) {
-            StepAnswer::Taken { next: n, later } => {
-                next = n;
-                c = later;
+            Ok(taken) => {
+                next = taken.next;
+                c = taken.later;
                 done += 1;
             }
-            StepAnswer::Stopped { reason, place } => {
-                return Verdict::Refused(Refusal {
-                    reason,
-                    step: done + 1,
-                    place,
-                });
-            }
+            Err(fault) => return Verdict::refused(fault.reason, done + 1, fault.place),
         }
     }
-    let used = &words[0..next];
-    if lookup::has_empty(formula, proof, used) {
+    let words = &words[..next];
+    let live = Clauses {
+        formula,
+        proof,
+        words,
+    };
+    if lookup::has_empty(live) {
         return Verdict::Refuted(done);
     }
     Verdict::Held(done)
-}
-
-fn file_long() -> Verdict
-    ensures { result ≡ refused Reason.FileLong 0 0 }
-{
-    Verdict::Refused(Refusal {
-        reason: Reason::FileLong,
-        step: 0,
-        place: 0,
-    })
 }
 
 // Both files' lengths (2), the formula, then the steps, in work memory that is all zero.
@@ -64,19 +53,12 @@ fn judge_files<'a>(formula: &'a [u8], proof: &'a [u8], words: &mut [u32], t: &mu
     requires { Clear words.old t.old }
     ensures { (w b : ℕ) → 16384 ≤ w → 8192 ≤ b → Answer w b formula.now proof.now result }
 {
-    if 1048576 < formula.len() {
-        return file_long();
-    }
-    if 1048576 < proof.len() {
-        return file_long();
+    if 1048576 < formula.len() || 1048576 < proof.len() {
+        return Verdict::refused(Reason::FileLong, 0, 0);
     }
     match reading::read_formula(formula, words, t) {
-        FormulaRead::Bad { reason, place } => Verdict::Refused(Refusal {
-            reason,
-            step: 0,
-            place,
-        }),
-        FormulaRead::Whole { vars, next } => run_steps(formula, proof, vars, next, words, t),
+        Ok(read) => run_steps(formula, proof, read.vars, read.next, words, t),
+        Err(fault) => Verdict::refused(fault.reason, 0, fault.place),
     }
 }
 

@@ -1,37 +1,27 @@
 -- What the checks of one clause's codes say, and the marks that they make in the table of the variables.
-use Rattle.std.specs.Prelude.{ℕ, ◌+◌, ◌*◌, ◌/◌, ◌≤◌, ◌<◌, ◌≡◌, List, [], ◌∷◌, Option, Some, None, IfSome, map, length}
+use Rattle.std.specs.Prelude.{ℕ, ◌+◌, ◌*◌, ◌/◌, ◌≤◌, ◌<◌, ◌≡◌, List, [], Option, Some, None, IfSome, map, length}
 use Rattle.paper.specs.declared.Reason.{Reason}
 use Rattle.paper.specs.declared.Extent.{Extent}
-use Rattle.paper.specs.Atoms.{◌∈◌, Clause}
+use Rattle.paper.specs.Atoms.{Clause}
 use Rattle.paper.specs.Files.{File, Read, ok, bad, codes}
 use Rattle.paper.specs.Refusals.{no_two}
-use Rattle.table.specs.Table.{Kept, value_at, set_value}
+use Rattle.loading.specs.Loading.{Among}
 
 -- the variables of a clause's codes
 abbrev pub variables : Clause → List ℕ
 variables C = map (λ l. l / 2) C
-
--- the table has room for the variable of each code of a payload
-abbrev pub Small : List ℕ → Type 0
-Small bs = (l : ℕ) → l ∈ codes bs → l < 8192
 
 -- what the paper says, for a reason, of codes from a place on, by the first of them that fails its test
 abbrev pub place_said : Reason → ℕ → Option ℕ → Read (Unit {0})
 place_said why p None = ok tt
 place_said why p (Some k) = bad why (p + 2 * k)
 
--- variables' marks cleared one after the other
-unfoldable pub unmarked : List ℕ → List ℕ → List ℕ
-unmarked t [] = t
-unmarked t (v ∷ vs) = unmarked (set_value t v 0) vs
-
 -- A look for a variable that stands twice ended with r: what the paper says, and the table u that it left of t, where only
 -- variables of the codes are marked.
 pub record Looked (bs : List ℕ) (t u : List ℕ) (r : Option ℕ) : Type 0 where
   pub said : (why : Reason) (p : ℕ) → no_two why [] 2 p (variables (codes bs)) ≡ place_said why p r
   pub within : IfSome r (λ k. k < length (codes bs))
-  pub kept : Kept t u
-  pub marks : (v : ℕ) → ¬ (v ∈ variables (codes bs)) → value_at u v ≡ 0
+  pub marks : Among t u (variables (codes bs))
 
 -- what check_clause asks: a payload in the file, and a number of variables within the paper's limit
 pub record Checkable (f : File) (e : Extent) (vars : ℕ) : Type 0 where

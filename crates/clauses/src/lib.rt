@@ -8,7 +8,8 @@ ghost use Rattle.paper.specs.Files.{payload, codes};
 ghost use Rattle.paper.specs.Refusals.{no_two, between, check_clause};
 ghost use Rattle.field.specs.Field.{result_of};
 ghost use Rattle.table.specs.Table.{Zero};
-ghost use Rattle.clauses.specs.Check.{variables, Small, place_said, unmarked, Looked, Checkable};
+ghost use Rattle.loading.specs.Loading.{Storable};
+ghost use Rattle.clauses.specs.Check.{variables, place_said, Looked, Checkable};
 
 use field::Fault;
 use paper::{Extent, Reason};
@@ -24,7 +25,7 @@ fn first_out_of_range(part: &[u8], vars: usize) -> Option<usize>
 
 // Which code is the first whose variable stands in the clause already. The variables before it are marked in the table.
 fn first_twice(part: &[u8], t: &mut [u8]) -> Option<usize>
-    requires { Small part.now × ((8192 ≤ length t.old) × Zero t.old) }
+    requires { Storable (codes part.now) × ((8192 ≤ length t.old) × Zero t.old) }
     ensures { Looked part.now t.old t.new result }
 {
     for (k, code) in codes::of(part).enumerate() {
@@ -36,25 +37,16 @@ fn first_twice(part: &[u8], t: &mut [u8]) -> Option<usize>
     None
 }
 
-// Clears the mark of each variable of the codes.
-fn clear_marks(part: &[u8], t: &mut [u8])
-    requires { Small part.now × (8192 ≤ length t.old) }
-    ensures { t.new ≡ unmarked t.old (variables (codes part.now)) }
-{
-    for code in codes::of(part) {
-        table::set_value(t, code / 2, 0);
-    }
-}
-
 // Which code is the first whose variable stands in the clause already, with the table left as it was.
+#[tactic(auto, using(loading::proofs::Undone::clause_undone, table::proofs::Kept::zero_value))]
 fn variable_twice(part: &[u8], t: &mut [u8]) -> Option<usize>
-    requires { Small part.now × ((8192 ≤ length t.old) × Zero t.old) }
+    requires { Storable (codes part.now) × ((8192 ≤ length t.old) × Zero t.old) }
     ensures said { (twice : Reason) (p : ℕ) → no_two twice [] 2 p (variables (codes part.now)) ≡ place_said twice p result }
     ensures within { IfSome result (λ k. k < length (codes part.now)) }
     ensures table { t.new ≡ t.old }
 {
     let found = first_twice(part, t);
-    clear_marks(part, t);
+    loading::unset_clause(part, t);
     found
 }
 

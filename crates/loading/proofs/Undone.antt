@@ -5,25 +5,21 @@ use mathlib.Core.Path.{◌≡◌, refl, sym, ap, ◌∙◌, subst}
 use mathlib.Core.Logic.{◌⊎◌, inl, inr}
 use mathlib.Core.Bool.{Bool, true, false}
 use mathlib.Core.List.Memᴰ
-use mathlib.Core.List.{List, [], ◌∷◌, ◌++◌, map}
+use mathlib.Core.List.{List, [], ◌∷◌, ◌++◌, append-nil, map}
 use native.Mathlib.Omega.{arith}
 use native.Mathlib.Decide.{ℕ_discrete}
 use Rattle.paper.specs.Atoms.{complement, ◌∈◌, Clause}
 use Rattle.paper.proofs.Lists.{complement_half, map_in}
-use Rattle.table.specs.Table.{Kept, value_at, image_of, set_value}
+use Rattle.table.specs.Table.{value_at, image_of, set_value}
 use Rattle.table.proofs.Laws.{value_other}
 use Rattle.table.proofs.Values.{value_unset}
 use Rattle.table.proofs.Kept.{kept_refl, kept_set_value, kept_image_of, same_table}
-use Rattle.loading.specs.Loading.{true_at, make_true, assumed, imaged, unset_clause, unset_images, Unset}
+use Rattle.loading.specs.Loading.{true_at, make_true, assumed, imaged, unset_clause, unset_images, Unset, Among}
 use Rattle.loading.proofs.Turns.{assumed_next, assumed_end, imaged_end, imaged_true, imaged_false, imaged_already, imaged_next, unset_clause_next, unset_clause_end, unset_images_next, unset_images_end}
 
--- 1. A table t that is t₀ but for values, and in which no variable but those named has one.
-pub record Among (t₀ t : List ℕ) (names : List ℕ) : Type 0 where
-  pub kept : Kept t₀ t
-  pub named : (v : ℕ) → (value_at t v ≡ 0) ⊎ (v ∈ names)
-
+-- 1. A table in which no variable but those named has a value.
 module _ (t₀ : List ℕ) where
-  among_start : Unset t₀ → (names : List ℕ) → Among t₀ t₀ names
+  pub among_start : Unset t₀ → (names : List ℕ) → Among t₀ t₀ names
   among_start unset names = record { kept = kept_refl t₀; named = λ v. inl (unset v) }
 
   among_none : Unset t₀ → (t : List ℕ) → Among t₀ t [] → t ≡ t₀
@@ -34,7 +30,7 @@ module _ (t₀ : List ℕ) where
       go v (inr m) = elim m [ ]
 
   -- a variable that is named gets a value
-  among_put : (t names : List ℕ) (v x : ℕ) → x < 4 → v ∈ names → Among t₀ t names → Among t₀ (set_value t v x) names
+  pub among_put : (t names : List ℕ) (v x : ℕ) → x < 4 → v ∈ names → Among t₀ t names → Among t₀ (set_value t v x) names
   among_put t names v x h m a = record { kept = kept_set_value v x h a.kept; named = λ w. go w (ℕ_discrete w v) (a.named w) }
     where
       go : (w : ℕ) → Dec (w ≡ v) → (value_at t w ≡ 0) ⊎ (w ∈ names) → (value_at (set_value t v x) w ≡ 0) ⊎ (w ∈ names)
@@ -94,7 +90,10 @@ module _ (t₀ : List ℕ) where
   among_unset_images (l ∷ D) t a =
       rw (unset_images_next, kept_image_of a.kept l) (among_unset_images D (set_value t (target l) 0) (among_unset t (map target D) (target l) a))
 
-  -- 3. Both undone bring a table with no value back.
+  -- 3. Undone they bring a table with no value back: the clause alone, the images alone, and both.
+  pub clause_undone : Unset t₀ → (C : Clause) (t : List ℕ) → Among t₀ t (map variable C) → unset_clause t C ≡ t₀
+  clause_undone unset C t a = among_none unset (unset_clause t C) (among_unset_clause [] C t (rw append-nil a))
+
   module _ (unset : Unset t₀) (D : Clause) where
     images_back : unset_images (imaged t₀ D).table D ≡ t₀
     images_back =

@@ -1,8 +1,8 @@
 -- Literals assumed in the table of the variables, and what is asked of the table before a question is put.
-use Rattle.std.specs.Prelude.{ℕ, suc, ◌+◌, ◌*◌, ◌/◌, ◌%◌, ◌<◌, ◌≤◌, ◌≡◌, Bool, true, false, List, [], ◌∷◌, eqb, length}
+use Rattle.std.specs.Prelude.{ℕ, suc, ◌+◌, ◌*◌, ◌/◌, ◌%◌, ◌<◌, ◌≤◌, ◌≡◌, ◌⊎◌, Bool, true, false, List, [], ◌∷◌, eqb, length}
 use Rattle.paper.specs.Atoms.{complement, ◌∈◌, Clause, Witness}
 use Rattle.paper.specs.Conditions.{image}
-use Rattle.table.specs.Table.{value_at, image_of, set_value}
+use Rattle.table.specs.Table.{Kept, value_at, image_of, set_value}
 use Rattle.loading.specs.declared.Assumed.{Assumed}
 use Rattle.loading.specs.declared.Assumed.TheVariants.{Passes, Open}
 
@@ -57,6 +57,11 @@ unset_images t (l ∷ D) = unset_images (set_value t (image_of t l / 2) 0) D
 -- no variable has a value
 abbrev pub Unset : List ℕ → Type 0
 Unset t = (v : ℕ) → value_at t v ≡ 0
+
+-- a table t that is t₀ but for values, and in which no variable but those named has one
+pub record Among (t₀ t names : List ℕ) : Type 0 where
+  pub kept : Kept t₀ t
+  pub named : (v : ℕ) → (value_at t v ≡ 0) ⊎ (v ∈ names)
 
 -- a table with room for the variables, none of which has a value
 pub record Ready (vars : ℕ) (t : List ℕ) : Type 0 where

@@ -1,8 +1,7 @@
 -- `answers::run_steps` meets its contract. The loop's invariant: the state is fit for a step, and what the rest answers the whole does.
 -- Assumes nothing.
 use native.Mathlib.Omega.{arith}
-use Rattle.lookup.proofs.Table.{used_table}
-use Rattle.answers.proofs.Run.{at_start, ready, taken_further, going_on, stopped, end_refuted, end_held}
+use Rattle.answers.proofs.Run.{at_start, ready, taken_further, going_on, stopped, end_refuted, end_held, used_clauses}
 use Rattle.answers.proofs.run_steps.Goals as goal
 
 pub loop-c-init : goal.loop-c-init
@@ -17,27 +16,25 @@ overflow_add-done c = let g = c.loop-c.invariant in omega (arith, g.counted, g.p
 pub loop-c-smaller : goal.loop-c-smaller
 loop-c-smaller c =
     let g = c.loop-c.invariant in
-    let far = taken_further g (rw c.in-Taken.is at c.take_step.ensures) in
+    let far = taken_further g c.in-Ok.ensures in
     omega arith
 
 pub loop-c-preserved : goal.loop-c-preserved
-loop-c-preserved c =
-    going_on c.loop-c.invariant c.loop-c-test.true (rw c.in-Taken.is at c.take_step.ensures)
+loop-c-preserved c = going_on c.loop-c.invariant c.loop-c-test.true c.in-Ok.ensures
 
-pub overflow_add-result : goal.overflow_add-result
-overflow_add-result c = let g = c.loop-c.invariant in omega (arith, g.counted, g.place, g.now.proof_short)
+pub overflow_add-done-in-Err : goal.overflow_add-done-in-Err
+overflow_add-done-in-Err c = let g = c.loop-c.invariant in omega (arith, g.counted, g.place, g.now.proof_short)
 
 -- A step that stops is the answer,
 -- the first and each later one.
-pub returns-in-Stopped : goal.returns-in-Stopped
-returns-in-Stopped c =
-    stopped c.loop-c.invariant c.loop-c-test.true (rw c.in-Stopped.is at c.take_step.ensures)
+pub returns-in-Err : goal.returns-in-Err
+returns-in-Err c = rw c.refused.ensures (stopped c.loop-c.invariant c.loop-c-test.true c.in-Err.ensures)
 
-pub slice_bounds-used-end : goal.slice_bounds-used-end
-slice_bounds-used-end c = let g = c.loop-c.invariant in omega (arith, g.now.last, g.now.words_long)
+pub slice_bounds-words-end : goal.slice_bounds-words-end
+slice_bounds-words-end c = let g = c.loop-c.invariant in omega (arith, g.now.last, g.now.words_long)
 
-pub has_empty-requires : goal.has_empty-requires
-has_empty-requires c = let g = c.loop-c.invariant in used_table g.now.clauses (omega (arith, g.now.last, g.now.words_long))
+pub invariant_of-live : goal.invariant_of-live
+invariant_of-live c = record { stands = used_clauses c.loop-c.invariant }
 
 pub returns-then-has_empty : goal.returns-then-has_empty
 returns-then-has_empty c = end_refuted c.loop-c.invariant (omega arith) c.has_empty.ensures c.if-has_empty.true
