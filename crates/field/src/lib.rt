@@ -76,7 +76,8 @@ impl Cursor {
     }
 }
 
-// The lengths that a field may have: 4 (HEAD), an even one (codes, numbers), a multiple of 4 (WITNESS).
+// The lengths that a field may have: 4 (HEAD), an even one (codes, numbers), a multiple of 4 (WITNESS). No closure: these three are
+// all, and a contract names each.
 #[derive(Clone, Copy)]
 pub enum Length {
     Four,

@@ -137,6 +137,7 @@ fn judge_loaded<'a>(
     };
     let clause = field::payload(proof, s.fields.clause);
     let numbers = field::payload(proof, s.fields.numbers);
+    // No closure for each kind: there are four, and each is judged by a condition of its own.
     match s.kind {
         Kind::Rup => judge_rup(live, clause, numbers, vars, next, t),
         Kind::Sr => judge_sr(live, clause, numbers, vars, next, t),
