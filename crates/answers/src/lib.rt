@@ -25,6 +25,7 @@ fn run_steps<'a>(
     let mut c = Cursor { at: 0 };
     let mut next = first;
     let mut done: usize = 0;
+    // No `for`: each step tells where the next one begins.
     while c.at < proof.len() {
         match judging::take_step(formula, proof, c, vars, next, words, t) {
             Ok(taken) => {

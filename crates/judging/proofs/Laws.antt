@@ -25,9 +25,10 @@ use Rattle.paper.proofs.Scan.{length_payload}
 use Rattle.field.specs.declared.Fault.{Fault}
 use Rattle.field.specs.Field.{result_of}
 use Rattle.field.proofs.Laws.{ok_in, bad_in}
+use Rattle.lookup.specs.declared.Clauses.{Clauses}
 use Rattle.lookup.specs.Clause.{proof_word, ClauseTable}
 use Rattle.lookup.specs.Live.{live}
-use Rattle.lookup.proofs.Table.{used_live, used_length, used_table}
+use Rattle.lookup.proofs.Table.{used_live, used_length}
 use Rattle.table.proofs.Kept.{zero_value}
 use Rattle.mapping.specs.Mapping.{Fitting, Bare, variables, loaded, unloaded, said_by, table_after}
 use Rattle.mapping.proofs.Images.{fitting, once_distinct, loaded_length, loaded_value, loaded_image_of, unload_loaded, zero_bare}
@@ -40,6 +41,7 @@ use Rattle.steps.proofs.Fields.{tag_once, lie}
 use Rattle.steps.proofs.Numbers.{removed_length, listed_used, after_removing, after_adding}
 use Rattle.steps.proofs.Step.{no_codes, clause_of, witness_of, numbers_of, fields_refuse, clause_refuses, mappings_refuse, twice_refuses, rest_refuses, new_read, delete_read, delete_tag}
 use Rattle.loading.proofs.Trivial.{images_inward}
+use Rattle.conditions.specs.Asked.{live_in}
 use Rattle.judging.specs.Step as step
 use Rattle.judging.specs.Step.{outcome, rest, New, NewJudged, JudgementIs, unread, judged, Checkable, Loadable, Ready, words_after, Done}
 
@@ -182,6 +184,19 @@ module _ {f p : File} {at vars next : ℕ} {words t : List ℕ} {s : StepRead} (
   abbrev ns : List ℕ
   ns = numbers_of p s.fields
 
+  -- the numbers in use hold all live clauses
+  all_used : take (next - 0) words ≡ take next words
+  all_used = let e : next - 0 ≡ next = omega arith in rw e refl
+
+  pub used : live f p (take next words) ≡ G
+  used = rw all_used at (used_live l.clauses)
+
+  in_words : next ≤ length words
+  in_words = omega (arith, l.last, l.words_long)
+
+  pub used_limit : length (take next words) ≤ 16384
+  used_limit = omega (arith, rw all_used at (used_length l.clauses in_words), l.last)
+
   same_rest : rest p G at s next ≡ (check_numbers G 0 s.fields.numbers.start ns >> need (eqb (get_or p at 0) 0x14 || ltb next 16384) NumbersUsedUp at)
   unfolding rest
   same_rest = rw l.read.tag refl
@@ -209,16 +224,6 @@ module _ {f p : File} {at vars next : ℕ} {words t : List ℕ} {s : StepRead} (
     ranged : Ranged vars σ
     ranged = subst (Then (λ _. Ranged vars σ)) l.mapped (check_mappings_then vars s.fields.witness.start σ)
 
-    -- the numbers in use hold all live clauses
-    all_used : take (next - 0) words ≡ take next words
-    all_used = let e : next - 0 ≡ next = omega arith in rw e refl
-
-    used : live f p (take next words) ≡ G
-    used = rw all_used at (used_live l.clauses)
-
-    in_words : next ≤ length words
-    in_words = omega (arith, l.last, l.words_long)
-
     module _ (k : Kind) (kind : s.kind ≡ k) (ne : tag_of k ≢ 0x14) where
       new_tag : get_or p at 0 ≢ 0x14
       new_tag = rw (← l.read.tag, kind) ne
@@ -227,22 +232,21 @@ module _ {f p : File} {at vars next : ℕ} {words t : List ℕ} {s : StepRead} (
       h = below_last at _ new_tag both.1
 
       module _ (clause numbers : List ℕ) (ec : clause ≡ payload p s.fields.clause) (en : numbers ≡ payload p s.fields.numbers) where
-        pub new : New f p (take next words) k clause numbers vars next t
-        new =
+        pub new : (c : Clauses) → live_in c ≡ G → length c.words.now ≤ 16384 → New c k clause numbers vars next t
+        new c is limit =
             let i = lie p at s.fields l.read.fields in
-            let c = subst (Then (λ _. Codes vars C × Apart C)) l.clause (check_clause_then ProofCode ProofTwice vars s.fields.clause.start C) in
+            let d = subst (Then (λ _. Codes vars C × Apart C)) l.clause (check_clause_then ProofCode ProofTwice vars s.fields.clause.start C) in
             record {
-              limit = omega (arith, rw all_used at (used_length l.clauses in_words));
-              clauses = rw all_used at (used_table l.clauses in_words);
-              kept = rw used l.kept;
-              new = rw ec (record { codes = c.0; apart = c.1; number = h });
-              listed = rw (used, en) listed;
+              limit = limit;
+              kept = rw is l.kept;
+              new = rw ec (record { codes = d.0; apart = d.1; number = h });
+              listed = rw (is, en) listed;
               none_listed = λ b. rw en (no_codes p s.fields.numbers (i.no_numbers (rw (← kind, l.read.tag) at b)));
               table = l.table;
               inward = images_inward vars t σ l.table.small l.images (λ v a m. (ranged v a m).2);
             }
 
-        pub new_judged : (r : Result (Unit {0}) Fault) → NewJudged f p (take next words) k clause numbers vars next t r
+        pub new_judged : (r : Result (Unit {0}) Fault) → NewJudged (live f p (take next words)) k clause numbers vars next t r
             → JudgementIs p vars G next at s.fields r
         new_judged r j =
             judged (new_read p vars G next at s.fields l.read.fields l.clause l.mapped l.once right new_tag h) (λ _. h) listed

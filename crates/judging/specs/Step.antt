@@ -9,6 +9,7 @@ use Rattle.paper.specs.Refusals.{no_two, check_clause, read_fields, check_mappin
 use Rattle.paper.specs.Answers.{Outcome, taken, stops, Judged}
 use Rattle.paper.specs.Valid.{Kept, Listed}
 use Rattle.paper.specs.Valid as valid
+use Rattle.lookup.specs.declared.Clauses.{Clauses}
 use Rattle.lookup.specs.Clause.{proof_word, ClauseTable}
 use Rattle.lookup.specs.Live.{live}
 use Rattle.table.specs.Table.{Zero}
@@ -18,6 +19,7 @@ use Rattle.steps.specs.declared.StepRead.{StepRead}
 use Rattle.steps.specs.Steps.{tag_of, IsRead, removed}
 use Rattle.loading.specs.Loading.{Images, Inward}
 use Rattle.loading.specs.Loading as loading
+use Rattle.conditions.specs.Asked.{live_in}
 use Rattle.judging.specs.declared.Taken.{Taken}
 
 -- the outcome that a judgement of a step with the tag, the new clause C and the numbers ns stands for
@@ -33,21 +35,20 @@ rest p F at s next = do
 
 -- A judgement of a RUP, SR or WSR step is asked: its clause and its numbers are fit to be judged, and so are the live clauses; the table
 -- has room for the variables, none of which has a value.
-pub record New (f p : File) (ws : List ℕ) (kind : Kind) (clause numbers : List ℕ) (vars next : ℕ) (t : List ℕ) : Type 0 where
-  pub limit : length ws ≤ 16384
-  pub clauses : ClauseTable f p (length ws) ws
-  pub kept : Kept vars next (live f p ws)
+pub record New (c : Clauses) (kind : Kind) (clause numbers : List ℕ) (vars next : ℕ) (t : List ℕ) : Type 0 where
+  pub limit : length c.words.now ≤ 16384
+  pub kept : Kept vars next (live_in c)
   pub new : valid.New vars next (codes clause)
-  pub listed : Listed (live f p ws) 0 (codes numbers)
+  pub listed : Listed (live_in c) 0 (codes numbers)
   pub none_listed : tag_of kind < 0x13 → codes numbers ≡ []
   pub table : loading.Ready vars t
   pub inward : Inward vars t
 
 -- the judgement is that of the step, for every witness whose images the table holds
-abbrev pub NewJudged : File → File → List ℕ → Kind → List ℕ → List ℕ → ℕ → ℕ → List ℕ → Result (Unit {0}) Fault → Type 0
-NewJudged f p ws kind clause numbers vars next t r =
+abbrev pub NewJudged : Formula → Kind → List ℕ → List ℕ → ℕ → ℕ → List ℕ → Result (Unit {0}) Fault → Type 0
+NewJudged F kind clause numbers vars next t r =
     (s : Witness) → Images t s
-    → Judged (live f p ws) next (to_step (tag_of kind) (codes clause) s (codes numbers)) (outcome (live f p ws) next (tag_of kind) (codes clause) (codes numbers) r)
+    → Judged F next (to_step (tag_of kind) (codes clause) s (codes numbers)) (outcome F next (tag_of kind) (codes clause) (codes numbers) r)
 
 -- What the judgement of a step's fields says: the step is refused as it is read, or it is read and judged.
 pub data JudgementIs (proof : File) (vars : ℕ) (F : Formula) (next at : ℕ) (x : Fields) : Result (Unit {0}) Fault → Type 0 where

@@ -6,28 +6,28 @@ ghost use Rattle.paper.specs.Files.{File};
 ghost use Rattle.field.specs.Field.{result_of};
 ghost use Rattle.lookup.specs.Live.{live};
 ghost use Rattle.steps.specs.declared.Kind.TheVariants.{Rup, Sr, Wsr};
+ghost use Rattle.conditions.specs.Asked.{live_in};
 ghost use Rattle.judging.specs.Step.{rest, New, NewJudged, Checkable, Loadable, JudgementIs, Ready, Done};
 
 use field::{Cursor, Fault};
+use lookup::Clauses;
 use paper::Reason;
 use steps::{Kind, StepRead};
 
 // "RUP step: not RUP" is 13.
-fn judge_rup<'a>(
-    formula: &'a [u8],
-    proof: &'a [u8],
-    words: &[u32],
-    clause: &'a [u8],
-    numbers: &'a [u8],
+fn judge_rup(
+    live: Clauses,
+    clause: &[u8],
+    numbers: &[u8],
     vars: usize,
     next: usize,
     t: &mut [u8],
 ) -> Result<(), Fault>
-    requires { New formula.now proof.now words.now Rup clause.now numbers.now vars next t.old }
-    ensures answer { NewJudged formula.now proof.now words.now Rup clause.now numbers.now vars next t.old result }
+    requires { New live Rup clause.now numbers.now vars next t.old }
+    ensures answer { NewJudged (live_in live.entry) Rup clause.now numbers.now vars next t.old result }
     ensures table { t.new ≡ t.old }
 {
-    if conditions::is_rup(formula, proof, words, clause, vars, t) {
+    if conditions::is_rup(live, clause, vars, t) {
         return Ok(());
     }
     Err(Fault {
@@ -37,18 +37,16 @@ fn judge_rup<'a>(
 }
 
 // "SR step: C not trivialised" is 14, then "a clause doesn't pass" is 15.
-fn judge_sr<'a>(
-    formula: &'a [u8],
-    proof: &'a [u8],
-    words: &[u32],
-    clause: &'a [u8],
-    numbers: &'a [u8],
+fn judge_sr(
+    live: Clauses,
+    clause: &[u8],
+    numbers: &[u8],
     vars: usize,
     next: usize,
     t: &mut [u8],
 ) -> Result<(), Fault>
-    requires { New formula.now proof.now words.now Sr clause.now numbers.now vars next t.old }
-    ensures answer { NewJudged formula.now proof.now words.now Sr clause.now numbers.now vars next t.old result }
+    requires { New live Sr clause.now numbers.now vars next t.old }
+    ensures answer { NewJudged (live_in live.entry) Sr clause.now numbers.now vars next t.old result }
     ensures table { t.new ≡ t.old }
 {
     if !loading::trivialises(clause, t) {
@@ -57,7 +55,7 @@ fn judge_sr<'a>(
             place: 0,
         });
     }
-    match conditions::lowest_failing(formula, proof, words, clause, numbers, vars, t) {
+    match conditions::lowest_failing(live, clause, numbers, vars, t) {
         Some(n) => Err(Fault {
             reason: Reason::NotPassing,
             place: n,
@@ -67,27 +65,25 @@ fn judge_sr<'a>(
 }
 
 // "a clause doesn't pass" is 15, "C counted with the number it would get".
-fn judge_wsr<'a>(
-    formula: &'a [u8],
-    proof: &'a [u8],
-    words: &[u32],
-    clause: &'a [u8],
-    numbers: &'a [u8],
+fn judge_wsr(
+    live: Clauses,
+    clause: &[u8],
+    numbers: &[u8],
     vars: usize,
     next: usize,
     t: &mut [u8],
 ) -> Result<(), Fault>
-    requires { New formula.now proof.now words.now Wsr clause.now numbers.now vars next t.old }
-    ensures answer { NewJudged formula.now proof.now words.now Wsr clause.now numbers.now vars next t.old result }
+    requires { New live Wsr clause.now numbers.now vars next t.old }
+    ensures answer { NewJudged (live_in live.entry) Wsr clause.now numbers.now vars next t.old result }
     ensures table { t.new ≡ t.old }
 {
-    if let Some(n) = conditions::lowest_failing(formula, proof, words, clause, numbers, vars, t) {
+    if let Some(n) = conditions::lowest_failing(live, clause, numbers, vars, t) {
         return Err(Fault {
             reason: Reason::NotPassing,
             place: n,
         });
     }
-    if conditions::passes(formula, proof, words, clause, clause, vars, t) {
+    if conditions::passes(live, clause, clause, vars, t) {
         return Ok(());
     }
     Err(Fault {
@@ -134,13 +130,17 @@ fn judge_loaded<'a>(
     ensures table { t.new ≡ t.old }
 {
     check_rest(proof, first, s, next, words)?;
-    let used = &words[..next];
+    let live = Clauses {
+        formula,
+        proof,
+        words: &words[..next],
+    };
     let clause = field::payload(proof, s.fields.clause);
     let numbers = field::payload(proof, s.fields.numbers);
     match s.kind {
-        Kind::Rup => judge_rup(formula, proof, used, clause, numbers, vars, next, t),
-        Kind::Sr => judge_sr(formula, proof, used, clause, numbers, vars, next, t),
-        Kind::Wsr => judge_wsr(formula, proof, used, clause, numbers, vars, next, t),
+        Kind::Rup => judge_rup(live, clause, numbers, vars, next, t),
+        Kind::Sr => judge_sr(live, clause, numbers, vars, next, t),
+        Kind::Wsr => judge_wsr(live, clause, numbers, vars, next, t),
         Kind::Delete => Ok(()),
     }
 }

@@ -3,7 +3,7 @@
 use native.Mathlib.Omega.{arith}
 use Rattle.std.proofs.lemmas.Result.{err_from_is_err_and}
 use Rattle.steps.proofs.Fields.{lie}
-use Rattle.judging.proofs.Laws.{rest_stops, delete_passes, new, new_judged}
+use Rattle.judging.proofs.Laws.{rest_stops, delete_passes, used, used_limit, new, new_judged}
 use Rattle.judging.proofs.judge_loaded.Goals as goal
 
 pub check_rest-requires : goal.check_rest-requires
@@ -25,7 +25,7 @@ returns-in-Delete-clause-answer c = delete_passes c.requires (c.in_ok-check_rest
 
 pub judge_rup-requires : goal.judge_rup-requires
 judge_rup-requires c =
-    new c.requires (c.in_ok-check_rest.ensures c.args.formula.now) _ c.in-Rup.is (omega arith) _ _ c.payload-clause.ensures c.payload-numbers.ensures
+    new c.requires (c.in_ok-check_rest.ensures c.args.formula.now) _ c.in-Rup.is (omega arith) _ _ c.payload-clause.ensures c.payload-numbers.ensures _ (used c.requires) (used_limit c.requires)
 
 pub returns-in-Rup-clause-answer : goal.returns-in-Rup-clause-answer
 returns-in-Rup-clause-answer c =
@@ -33,7 +33,7 @@ returns-in-Rup-clause-answer c =
 
 pub judge_sr-requires : goal.judge_sr-requires
 judge_sr-requires c =
-    new c.requires (c.in_ok-check_rest.ensures c.args.formula.now) _ c.in-Sr.is (omega arith) _ _ c.payload-clause.ensures c.payload-numbers.ensures
+    new c.requires (c.in_ok-check_rest.ensures c.args.formula.now) _ c.in-Sr.is (omega arith) _ _ c.payload-clause.ensures c.payload-numbers.ensures _ (used c.requires) (used_limit c.requires)
 
 pub returns-in-Sr-clause-answer : goal.returns-in-Sr-clause-answer
 returns-in-Sr-clause-answer c =
@@ -41,7 +41,7 @@ returns-in-Sr-clause-answer c =
 
 pub judge_wsr-requires : goal.judge_wsr-requires
 judge_wsr-requires c =
-    new c.requires (c.in_ok-check_rest.ensures c.args.formula.now) _ c.in-Wsr.is (omega arith) _ _ c.payload-clause.ensures c.payload-numbers.ensures
+    new c.requires (c.in_ok-check_rest.ensures c.args.formula.now) _ c.in-Wsr.is (omega arith) _ _ c.payload-clause.ensures c.payload-numbers.ensures _ (used c.requires) (used_limit c.requires)
 
 pub returns-in-Wsr-clause-answer : goal.returns-in-Wsr-clause-answer
 returns-in-Wsr-clause-answer c =
