@@ -71,6 +71,7 @@ fn read_clause(formula: &[u8], c: Cursor, vars: usize, t: &mut [u8]) -> Result<C
 }
 
 // After clause m the formula ends.
+#[tactic(auto, using(paper::proofs::Lists::leb_within, paper::proofs::Lists::leb_beyond), unfolding(paper::specs::Files::need, field::specs::Field::result_of))]
 fn nothing_follows(formula: &[u8], c: Cursor) -> Result<(), Fault>
     ensures { result ≡ result_of (need (leb (length formula.now) c.at) Reason.FormulaEnd c.at) }
 {

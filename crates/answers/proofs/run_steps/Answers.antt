@@ -1,17 +1,8 @@
 -- `answers::run_steps` meets its contract. The loop's invariant: the state is fit for a step, and what the rest answers the whole does.
 -- Assumes nothing.
 use native.Mathlib.Omega.{arith}
-use Rattle.answers.proofs.Run.{at_start, ready, taken_further, going_on, stopped, end_refuted, end_held, used_clauses}
+use Rattle.answers.proofs.Run.{taken_further, going_on, stopped, end_refuted, end_held, used_clauses}
 use Rattle.answers.proofs.run_steps.Goals as goal
-
-pub loop-c-init : goal.loop-c-init
-loop-c-init c = at_start c.requires
-
-pub take_step-requires : goal.take_step-requires
-take_step-requires c = ready c.loop-c.invariant (omega arith)
-
-pub overflow_add-done : goal.overflow_add-done
-overflow_add-done c = let g = c.loop-c.invariant in omega (arith, g.counted, g.place, g.now.proof_short)
 
 pub loop-c-smaller : goal.loop-c-smaller
 loop-c-smaller c =
@@ -22,16 +13,10 @@ loop-c-smaller c =
 pub loop-c-preserved : goal.loop-c-preserved
 loop-c-preserved c = going_on c.loop-c.invariant c.loop-c-test.true c.in-Ok.ensures
 
-pub overflow_add-done-in-Err : goal.overflow_add-done-in-Err
-overflow_add-done-in-Err c = let g = c.loop-c.invariant in omega (arith, g.counted, g.place, g.now.proof_short)
-
 -- A step that stops is the answer,
 -- the first and each later one.
 pub returns-in-Err : goal.returns-in-Err
 returns-in-Err c = rw c.refused.ensures (stopped c.loop-c.invariant c.loop-c-test.true c.in-Err.ensures)
-
-pub slice_bounds-words-end : goal.slice_bounds-words-end
-slice_bounds-words-end c = let g = c.loop-c.invariant in omega (arith, g.now.last, g.now.words_long)
 
 pub invariant_of-live : goal.invariant_of-live
 invariant_of-live c = record { stands = used_clauses c.loop-c.invariant }
