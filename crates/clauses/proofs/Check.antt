@@ -5,25 +5,17 @@ use mathlib.Core.Path.{◌≡◌}
 use mathlib.Core.Bool.{not}
 use mathlib.Core.List.{[]}
 use native.Mathlib.Omega.{arith}
-use lib.ListN.{length}
 use Rattle.std.proofs.Common.{Some, None, Ok, Err}
 use Rattle.std.specs.List.{position}
 use Rattle.paper.specs.declared.Reason.{Reason}
 use Rattle.paper.specs.declared.Reason.TheVariants.{FormulaCode}
-use Rattle.paper.specs.declared.Extent.{Extent}
 use Rattle.paper.specs.Atoms.{◌∈◌, Clause}
-use Rattle.paper.specs.Files.{File, ok, bad, past, ◌>>◌, payload, codes}
+use Rattle.paper.specs.Files.{ok, bad, ◌>>◌}
 use Rattle.paper.specs.Refusals.{no_two, between, check_clause}
 use Rattle.paper.proofs.Reading.{each_then, between_yes}
-use Rattle.paper.proofs.Scan.{length_payload}
 use Rattle.field.specs.Field.{result_of}
 use Rattle.clauses.specs.Check.{variables}
-use Rattle.clauses.proofs.Codes.{codes_fit, each_position}
-
--- the place of a code of a payload lies in the file
-pub code_inside : (f : File) (e : Extent) (k : ℕ) → e.start + e.size ≤ length f → k < length (codes (payload f e)) → e.start + 2 * k < length f
-unfolding past
-code_inside f e k h i = omega (arith, codes_fit (payload f e), length_payload f e h)
+use Rattle.clauses.proofs.Codes.{each_position}
 
 module _ (vars : ℕ) (C : Clause) where
   -- the fault, or none: a code out of range comes first

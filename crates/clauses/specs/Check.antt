@@ -1,9 +1,8 @@
 -- What the checks of one clause's codes say, and the marks that they make in the table of the variables.
-use Rattle.std.specs.Prelude.{ℕ, ◌+◌, ◌*◌, ◌/◌, ◌≤◌, ◌<◌, ◌≡◌, List, [], Option, Some, None, IfSome, map, length}
+use Rattle.std.specs.Prelude.{ℕ, ◌+◌, ◌*◌, ◌/◌, ◌<◌, ◌≡◌, List, [], Option, Some, None, IfSome, map, length}
 use Rattle.paper.specs.declared.Reason.{Reason}
-use Rattle.paper.specs.declared.Extent.{Extent}
 use Rattle.paper.specs.Atoms.{Clause}
-use Rattle.paper.specs.Files.{File, Read, ok, bad, codes}
+use Rattle.paper.specs.Files.{Read, ok, bad, codes}
 use Rattle.paper.specs.Refusals.{no_two}
 use Rattle.loading.specs.Loading.{Among}
 
@@ -22,8 +21,3 @@ pub record Looked (bs : List ℕ) (t u : List ℕ) (r : Option ℕ) : Type 0 whe
   pub said : (why : Reason) (p : ℕ) → no_two why [] 2 p (variables (codes bs)) ≡ place_said why p r
   pub within : IfSome r (λ k. k < length (codes bs))
   pub marks : Among t u (variables (codes bs))
-
--- what check_clause asks: a payload in the file, and a number of variables within the paper's limit
-pub record Checkable (f : File) (e : Extent) (vars : ℕ) : Type 0 where
-  pub within : e.start + e.size ≤ length f
-  pub limit : vars ≤ 4095

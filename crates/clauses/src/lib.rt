@@ -4,15 +4,15 @@
 
 ghost use Rattle.std.specs.Prelude.{◌≡◌, [], ◌+◌, ◌*◌, ◌≤◌, ◌<◌, ℕ, IfSome, not, length, position};
 ghost use Rattle.paper.specs.declared.Reason.{Reason};
-ghost use Rattle.paper.specs.Files.{payload, codes};
+ghost use Rattle.paper.specs.Files.{codes};
 ghost use Rattle.paper.specs.Refusals.{no_two, between, check_clause};
 ghost use Rattle.field.specs.Field.{result_of};
 ghost use Rattle.table.specs.Table.{Zero};
 ghost use Rattle.loading.specs.Loading.{Storable};
-ghost use Rattle.clauses.specs.Check.{variables, place_said, Looked, Checkable};
+ghost use Rattle.clauses.specs.Check.{variables, place_said, Looked};
 
-use field::Fault;
-use paper::{Extent, Reason};
+use field::{Fault, Part};
+use paper::Reason;
 
 // Which of the codes is the first outside 2 to 2 vars + 1.
 fn first_out_of_range(part: &[u8], vars: usize) -> Option<usize>
@@ -51,30 +51,28 @@ fn variable_twice(part: &[u8], t: &mut [u8]) -> Option<usize>
 }
 
 // A code out of range comes before a variable that stands twice. The fault is the first such code, or the second of a variable.
-#[tactic(auto, using(crate::proofs::Check::code_inside))]
+#[tactic(auto, using(crate::proofs::Codes::codes_fit))]
 pub fn check_clause(
-    file: &[u8],
-    e: Extent,
+    part: Part,
     vars: usize,
     range: Reason,
     twice: Reason,
     t: &mut [u8],
 ) -> Result<(), Fault>
-    requires { Checkable file.now e vars × ((8192 ≤ length t.old) × Zero t.old) }
-    ensures said { result ≡ result_of (check_clause range twice vars e.start (codes (payload file.now e))) }
+    requires { (vars ≤ 4095) × ((8192 ≤ length t.old) × Zero t.old) }
+    ensures said { result ≡ result_of (check_clause range twice vars part.entry.start (codes part.entry.bytes.now)) }
     ensures table { t.new ≡ t.old }
 {
-    let part = field::payload(file, e);
-    if let Some(k) = first_out_of_range(part, vars) {
+    if let Some(k) = first_out_of_range(part.bytes, vars) {
         return Err(Fault {
             reason: range,
-            place: e.start + 2 * k,
+            place: part.start + 2 * k,
         });
     }
-    if let Some(k) = variable_twice(part, t) {
+    if let Some(k) = variable_twice(part.bytes, t) {
         return Err(Fault {
             reason: twice,
-            place: e.start + 2 * k,
+            place: part.start + 2 * k,
         });
     }
     Ok(())

@@ -2,7 +2,7 @@
 // The reading place is a cursor by value; its method reads one field and hands back the next cursor.
 #![tactic(auto)]
 
-ghost use Rattle.std.specs.Prelude.{◌≡◌, ◌+◌, ◌<◌, ◌≤◌, length};
+ghost use Rattle.std.specs.Prelude.{◌≡◌, ◌+◌, ◌^◌, ◌<◌, ◌≤◌, length};
 ghost use Rattle.paper.specs.Files.{two, payload, field};
 ghost use Rattle.field.specs.Field.{field_at, allowed_by, judged, found_of};
 
@@ -19,9 +19,18 @@ pub fn pair_at(s: &[u8], at: usize) -> usize
 // The payload of a field.
 pub fn payload(s: &[u8], e: Extent) -> &[u8]
     requires { e.start + e.size ≤ length s.now }
-    ensures { result.now ≡ payload s.now e }
+    ensures bytes { result.now ≡ payload s.now e }
+    ensures size { length result.now ≡ e.size }
 {
     &s[e.start..e.start + e.size]
+}
+
+// A part of a file, and the offset at which it starts there.
+#[derive(Clone, Copy)]
+pub struct Part<'a> {
+    pub bytes: &'a [u8],
+    pub start: usize,
+    pub ghost fits: { start + length bytes.now < 2 ^ 64 },
 }
 
 #[derive(Clone, Copy)]

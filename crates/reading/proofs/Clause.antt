@@ -1,8 +1,8 @@
 -- One clause as the code reads it, against the paper's reading of the clauses.
 -- Assumes nothing.
-use Prim.Native.Nat.{ℕ, suc, ◌≤◌, ◌<◌}
+use Prim.Native.Nat.{ℕ, suc, ◌+◌, ◌≤◌, ◌<◌}
 use mathlib.Core.Path.{◌≡◌, refl, sym, ap}
-use mathlib.Core.List.{[], ◌∷◌, ◌++◌, append-nil, append_assoc}
+use mathlib.Core.List.{List, [], ◌∷◌, ◌++◌, append-nil, append_assoc}
 use borrow.Author.Tests.{lt-ltb, le-ltb}
 use lib.ListN.{length}
 use Rattle.std.proofs.Common.{Ok, Err}
@@ -14,7 +14,6 @@ use Rattle.field.specs.declared.Found.{Found}
 use Rattle.field.specs.declared.Fault.{Fault}
 use Rattle.field.specs.Field.{extent_at, result_of, found_of}
 use Rattle.field.proofs.Laws.{stands, ok_in, bad_in, found_in, found_next, not_found}
-use Rattle.clauses.specs.Check.{Checkable}
 use Rattle.reading.specs.Reading.{prepend, ClauseTaken}
 
 -- clauses that were read, and the place past them
@@ -53,27 +52,28 @@ module _ (f : File) (vars at : ℕ) where
     clause_wrong b q m n = rw (lt-ltb at (length f) h, not_found b _ q)
 
     module _ (d : Found) (q : Ok d ≡ found_of (field FormulaField 0x02 even f at)) where
-      pub clause_checkable : vars ≤ 4095 → Checkable f d.extent vars
-      clause_checkable k = record { within = (stands FormulaField 0x02 even f at d.extent (found_in d _ q)).within; limit = k }
-
-      pub clause_bad : (b : Fault) → Err b ≡ result_of (check_clause FormulaCode FormulaTwice vars d.extent.start (codes (payload f d.extent))) → (m n : ℕ)
-          → read_clauses f vars (suc m) n at ≡ bad b.reason b.place
-      unfolding read_clauses ◌>>◌ ◌>>=◌ need
-      clause_bad b k m n = rw (lt-ltb at (length f) h, found_in d _ q, bad_in b _ k)
+      pub clause_within : d.extent.start + d.extent.size ≤ length f
+      clause_within = (stands FormulaField 0x02 even f at d.extent (found_in d _ q)).within
 
       place : d.next.at ≡ past (extent_at f at)
       unfolding past extent_at
       place = let s = stands FormulaField 0x02 even f at d.extent (found_in d _ q) in rw (found_next d _ q, s.start, s.size)
 
-      -- the next clause is read where the cursor past this one stands
-      pub clause_taken : Ok tt ≡ result_of (check_clause FormulaCode FormulaTwice vars d.extent.start (codes (payload f d.extent))) → ClauseTaken f vars at d.next.at
-      unfolding read_clauses ◌>>◌ ◌>>=◌ need
-      clause_taken k = record {
-        extent = d.extent;
-        starts = h;
-        stands = found_in d _ q;
-        after = place;
-        read = λ m n.
-            rw (found_next d _ q)
-            (rw (lt-ltb at (length f) h, found_in d _ q, ok_in tt _ k) (prepend_one n (codes (payload f d.extent)) (read_clauses f vars m (suc n) (past d.extent))));
-      }
+      module _ (bs : List ℕ) (part : bs ≡ payload f d.extent) where
+        pub clause_bad : (b : Fault) → Err b ≡ result_of (check_clause FormulaCode FormulaTwice vars d.extent.start (codes bs)) → (m n : ℕ)
+            → read_clauses f vars (suc m) n at ≡ bad b.reason b.place
+        unfolding read_clauses ◌>>◌ ◌>>=◌ need
+        clause_bad b k m n = rw (lt-ltb at (length f) h, found_in d _ q, ← part, bad_in b _ k)
+
+        -- the next clause is read where the cursor past this one stands
+        pub clause_taken : Ok tt ≡ result_of (check_clause FormulaCode FormulaTwice vars d.extent.start (codes bs)) → ClauseTaken f vars at d.next.at
+        unfolding read_clauses ◌>>◌ ◌>>=◌ need
+        clause_taken k = record {
+          extent = d.extent;
+          starts = h;
+          stands = found_in d _ q;
+          after = place;
+          read = λ m n.
+              rw (found_next d _ q)
+              (rw (lt-ltb at (length f) h, found_in d _ q, ← part, ok_in tt _ k) (prepend_one n (codes bs) (read_clauses f vars m (suc n) (past d.extent))));
+        }

@@ -8,7 +8,7 @@ ghost use Rattle.field.specs.Field.{result_of};
 ghost use Rattle.table.specs.Table.{Zero};
 ghost use Rattle.reading.specs.Reading.{HeadSaid, ClauseSaid, ClausesSaid, FormulaSaid};
 
-use field::{Cursor, Fault, Length};
+use field::{Cursor, Fault, Length, Part};
 use paper::Reason;
 
 // V, m and the cursor past HEAD.
@@ -46,7 +46,7 @@ fn read_head(formula: &[u8]) -> Result<Head, Fault>
 }
 
 // The clause whose tag is at the cursor; what is handed back is the cursor past it.
-#[tactic(auto, using(crate::proofs::Clause::clause_ends, crate::proofs::Clause::clause_checkable, crate::proofs::Clause::clause_taken))]
+#[tactic(auto, using(crate::proofs::Clause::clause_ends, crate::proofs::Clause::clause_within, crate::proofs::Clause::clause_taken))]
 fn read_clause(formula: &[u8], c: Cursor, vars: usize, t: &mut [u8]) -> Result<Cursor, Fault>
     requires { (vars ≤ 4095) × ((8192 ≤ length t.old) × Zero t.old) }
     ensures said { ClauseSaid formula.now vars c.at result }
@@ -59,14 +59,11 @@ fn read_clause(formula: &[u8], c: Cursor, vars: usize, t: &mut [u8]) -> Result<C
         });
     }
     let clause = field::expect(formula, c, Reason::FormulaField, 2, Length::Even)?;
-    clauses::check_clause(
-        formula,
-        clause.extent,
-        vars,
-        Reason::FormulaCode,
-        Reason::FormulaTwice,
-        t,
-    )?;
+    let part = Part {
+        bytes: field::payload(formula, clause.extent),
+        start: clause.extent.start,
+    };
+    clauses::check_clause(part, vars, Reason::FormulaCode, Reason::FormulaTwice, t)?;
     Ok(clause.next)
 }
 

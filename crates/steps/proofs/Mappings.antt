@@ -7,12 +7,10 @@ use mathlib.Core.List.{List, [], ◌∷◌}
 use native.Mathlib.Omega.{arith}
 use lib.ListN.{length}
 use Rattle.paper.specs.declared.Reason.TheVariants.{ProofCode}
-use Rattle.paper.specs.declared.Extent.{Extent}
 use Rattle.paper.specs.Atoms.{Witness}
-use Rattle.paper.specs.Files.{File, bad, ◌>>◌, need, payload, past, codes, mappings}
+use Rattle.paper.specs.Files.{bad, ◌>>◌, need, codes, mappings}
 use Rattle.paper.specs.Refusals.{between, check_mappings}
 use Rattle.paper.proofs.Lists.{leb_within, leb_beyond}
-use Rattle.paper.proofs.Scan.{length_payload}
 
 module _ (vars p v a : ℕ) {here rest : Witness} (step : here ≡ (v, a) ∷ rest) where
   pub variable_refused : between 1 vars v ≡ false → check_mappings vars p here ≡ bad ProofCode p
@@ -29,22 +27,17 @@ module _ (vars p v a : ℕ) {here rest : Witness} (step : here ≡ (v, a) ∷ re
     mapping_fine h = rw (step, e, leb_within a (2 * vars + 1) h)
 
 -- a code has two bytes, and a mapping two codes
-codes_room : (xs : List ℕ) → 2 * length (codes xs) ≤ length xs
+pub codes_room : (xs : List ℕ) → 2 * length (codes xs) ≤ length xs
 unfolding codes
 codes_room [] = omega arith
 codes_room (a ∷ []) = omega arith
 codes_room (a ∷ b ∷ xs) = let h = codes_room xs in omega arith
 
-mappings_room : (xs : List ℕ) → 2 * length (mappings xs) ≤ length xs
+pairs_room : (xs : List ℕ) → 2 * length (mappings xs) ≤ length xs
 unfolding mappings
-mappings_room [] = omega arith
-mappings_room (v ∷ []) = omega arith
-mappings_room (v ∷ a ∷ xs) = let h = mappings_room xs in omega arith
+pairs_room [] = omega arith
+pairs_room (v ∷ []) = omega arith
+pairs_room (v ∷ a ∷ xs) = let h = pairs_room xs in omega arith
 
-module _ (f : File) (x : Extent) (h : x.start + x.size ≤ length f) where
-  pub room_codes : 2 * length (codes (payload f x)) ≤ x.size
-  unfolding past
-  room_codes = omega (arith, length_payload f x h, codes_room (payload f x))
-
-  pub room_mappings : 4 * length (mappings (codes (payload f x))) ≤ x.size
-  room_mappings = omega (arith, room_codes, mappings_room (codes (payload f x)))
+pub mappings_room : (xs : List ℕ) → 4 * length (mappings (codes xs)) ≤ length xs
+mappings_room xs = omega (arith, codes_room xs, pairs_room (codes xs))

@@ -41,7 +41,7 @@ module _ (F : Formula) (last p n : ℕ) {here rest : List ℕ} (step : here ≡ 
   number_passed q = rw (step, q)
 
 -- by the tests of the code
-module _ (p : File) (ws : List ℕ) (last at n : ℕ) {here rest : List ℕ} (step : here ≡ n ∷ rest) (f : File) where
+module _ (ws : List ℕ) (last at n : ℕ) {here rest : List ℕ} (step : here ≡ n ∷ rest) (f p : File) where
   pub not_above : n ≤ last → check_numbers (live f p ws) last at here ≡ bad NumberNotLive at
   not_above k =
       number_refused (live f p ws) last at n step (not_both (is_live n (live f p ws)) (ltb last n) (leb_beyond (suc last) n (omega arith)))

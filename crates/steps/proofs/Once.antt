@@ -38,6 +38,6 @@ once f at (Err e) (Err d) p q =
 pub read_fields_once : (κs : _) (a : _) (r r' : Result StepRead Fault) (s s' : _) → read_fields.Post κs a r s → read_fields.Post κs a r' s' → r ≡ r'
 read_fields_once κs a r r' s s' p q = once _ _ r r' p q
 
--- the formula's bytes do not matter to which numbers are live, so none will do
+-- the files' bytes do not matter to which numbers are live, so none will do
 pub check_numbers_once : (κs : _) (a : _) (r r' : Result (Unit {0}) Fault) (s s' : _) → check_numbers.Post κs a r s → check_numbers.Post κs a r' s' → r ≡ r'
-check_numbers_once κs a r r' s s' p q = p [] ∙ sym (q [])
+check_numbers_once κs a r r' s s' p q = p [] [] ∙ sym (q [] [])

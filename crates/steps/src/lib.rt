@@ -2,14 +2,14 @@
 // numbers that it names (reason 11); and the clause table cleared of those numbers.
 #![tactic(auto)]
 
-ghost use Rattle.std.specs.Prelude.{◌≡◌, ◌+◌, ◌≤◌, length, eqb, MatchResult};
-ghost use Rattle.paper.specs.Files.{File, bad, payload, codes, mappings};
+ghost use Rattle.std.specs.Prelude.{◌≡◌, ◌≤◌, length, eqb, MatchResult};
+ghost use Rattle.paper.specs.Files.{File, bad, codes, mappings};
 ghost use Rattle.paper.specs.Refusals.{between, field_if, read_fields, check_mappings, check_numbers};
 ghost use Rattle.field.specs.Field.{allowed_by, found_of, result_of};
 ghost use Rattle.lookup.specs.Live.{live};
 ghost use Rattle.steps.specs.Steps.{tag_of, kind_of, IsRead, removed, Below};
 
-use field::{Cursor, Fault, Found, Length};
+use field::{Cursor, Fault, Found, Length, Part};
 use paper::{Extent, Fields, Reason};
 
 // The kinds of steps.
@@ -117,12 +117,12 @@ pub fn read_fields(proof: &[u8], first: Cursor) -> Result<StepRead, Fault>
 }
 
 // Reason 9 over the payload of a WITNESS: a variable outside 1 to V, an atom outside 0 to 2V+1.
-pub fn check_mappings(proof: &[u8], e: Extent, vars: usize) -> Result<(), Fault>
-    requires { (e.start + e.size ≤ length proof.now) × (vars ≤ 4095) }
-    ensures { result ≡ result_of (check_mappings vars e.start (mappings (codes (payload proof.now e)))) }
+pub fn check_mappings(part: Part, vars: usize) -> Result<(), Fault>
+    requires { vars ≤ 4095 }
+    ensures { result ≡ result_of (check_mappings vars part.entry.start (mappings (codes part.entry.bytes.now))) }
 {
-    for (k, (v, atom)) in codes::mapped(field::payload(proof, e)).enumerate() {
-        let place = e.start + 4 * k;
+    for (k, (v, atom)) in codes::mapped(part.bytes).enumerate() {
+        let place = part.start + 4 * k;
         if !(1..=vars).contains(&v) {
             return Err(Fault {
                 reason: Reason::ProofCode,
@@ -139,17 +139,16 @@ pub fn check_mappings(proof: &[u8], e: Extent, vars: usize) -> Result<(), Fault>
     Ok(())
 }
 
-// Reason 11 over a list of clause numbers: one that is not live, or not above the one before it.
-pub fn check_numbers(proof: &[u8], e: Extent, words: &[u32]) -> Result<(), Fault>
-    requires { e.start + e.size ≤ length proof.now }
-    ensures { (f : File) → result ≡ result_of (check_numbers (live f proof.now words.now) 0 e.start (codes (payload proof.now e))) }
+// Reason 11 over a list of clause numbers: one that is not live, or not above the one before it. Which are live the words alone tell.
+pub fn check_numbers(part: Part, words: &[u32]) -> Result<(), Fault>
+    ensures { (f p : File) → result ≡ result_of (check_numbers (live f p words.now) 0 part.entry.start (codes part.entry.bytes.now)) }
 {
     let mut last = 0;
-    for (k, n) in codes::of(field::payload(proof, e)).enumerate() {
+    for (k, n) in codes::of(part.bytes).enumerate() {
         if n <= last || words.len() <= n || words[n] < lookup::LIVE {
             return Err(Fault {
                 reason: Reason::NumberNotLive,
-                place: e.start + 2 * k,
+                place: part.start + 2 * k,
             });
         }
         last = n;
@@ -158,11 +157,11 @@ pub fn check_numbers(proof: &[u8], e: Extent, words: &[u32]) -> Result<(), Fault
 }
 
 // Clears the listed numbers: their clauses are no longer live. The last goes first, so that a run of them is written once.
-pub fn remove_numbers(proof: &[u8], e: Extent, words: &mut [u32])
-    requires { (e.start + e.size ≤ length proof.now) × ((length words.old ≤ 65536) × Below (length words.old) (codes (payload proof.now e))) }
-    ensures { words.new ≡ removed words.old (codes (payload proof.now e)) }
+pub fn remove_numbers(numbers: &[u8], words: &mut [u32])
+    requires { (length words.old ≤ 65536) × Below (length words.old) (codes numbers.now) }
+    ensures { words.new ≡ removed words.old (codes numbers.now) }
 {
-    for n in codes::of(field::payload(proof, e)).rev() {
+    for n in codes::of(numbers).rev() {
         lookup::remove(words, n);
     }
 }

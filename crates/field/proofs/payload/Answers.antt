@@ -4,6 +4,6 @@ use Rattle.paper.specs.Files.{past}
 use Rattle.paper.proofs.Scan.{payload_part}
 use Rattle.field.proofs.payload.Goals as goal
 
-pub returns : goal.returns
+pub returns-clause-bytes : goal.returns-clause-bytes
 unfolding past
-returns c = sym (payload_part c.args.s.now c.args.e)
+returns-clause-bytes c = sym (payload_part c.args.s.now c.args.e)

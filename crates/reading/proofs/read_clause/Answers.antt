@@ -12,4 +12,4 @@ returns-in_err-clause-clause-said c =
 pub returns-in_err-check_clause-clause-said : goal.returns-in_err-check_clause-clause-said
 returns-in_err-check_clause-clause-said c =
     let p = err_from_is_err_and c.from_residual-in_err-check_clause.result c.from_residual-in_err-check_clause.ensures.1 in
-    rw (p.1, p.2) (clause_bad _ _ _ (omega arith) _ c.in_ok-clause.ensures _ c.in_err-check_clause.ensures.said)
+    rw (p.1, p.2) (clause_bad _ _ _ (omega arith) _ c.in_ok-clause.ensures _ c.payload.ensures.bytes _ c.in_err-check_clause.ensures.said)

@@ -4,10 +4,9 @@ use mathlib.Core.Path.{◌≡◌, refl, sym, ap, ◌∙◌}
 use native.Mathlib.Omega.{arith}
 use lib.ListN.{length}
 use Rattle.std.proofs.Common.{rules}
-use Rattle.paper.specs.Files.{payload}
 use Rattle.paper.specs.Refusals.{between, check_mappings}
 use Rattle.field.specs.Field.{result_of}
-use Rattle.steps.proofs.Mappings.{variable_refused, atom_refused, mapping_fine, room_mappings}
+use Rattle.steps.proofs.Mappings.{variable_refused, atom_refused, mapping_fine, mappings_room}
 use Rattle.steps.proofs.check_mappings.Goals as goal
 use Rattle.steps.proofs.check_mappings.Goals.{After-contains}
 
@@ -19,9 +18,9 @@ range c = search rules
 pub loop-k-init : goal.loop-k-init
 loop-k-init c =
     let z : c.into_iter-k-iterator.result.count ≡ 0 = cc in
-    let b : c.into_iter-k-iterator.result.iter.bytes.now ≡ payload c.args.proof.now c.args.e = cc in
-    let e : c.args.e.start + 4 * c.into_iter-k-iterator.result.count ≡ c.args.e.start = omega arith in
-    (rw b (omega (arith, room_mappings _ _ c.requires.0)), rw (e, b) refl)
+    let b : c.into_iter-k-iterator.result.iter.bytes.now ≡ c.args.part.bytes.now = cc in
+    let e : c.args.part.start + 4 * c.into_iter-k-iterator.result.count ≡ c.args.part.start = omega arith in
+    (rw b (omega (arith, mappings_room c.args.part.bytes.now)), rw (e, b) refl)
 
 pub returns-then-not-contains : goal.returns-then-not-contains
 unfolding result_of
@@ -40,8 +39,8 @@ returns-then-vars-atom c =
 pub loop-k-preserved : goal.loop-k-preserved
 loop-k-preserved c =
     let s = c.in-Some.ensures.steps in
-    let e = mapping_fine c.args.vars (c.args.e.start + 4 * c.loop-k.k-iterator.count) _ _ s.0 (sym (range (goal.at.loop-k-preserved c).After-contains) ∙ c.if-not-contains.false) c.if-vars-atom.false in
-    let q : c.args.e.start + 4 * c.next.new.self.count ≡ c.args.e.start + 4 * c.loop-k.k-iterator.count + 4 = omega (arith, s.2) in
+    let e = mapping_fine c.args.vars (c.args.part.start + 4 * c.loop-k.k-iterator.count) _ _ s.0 (sym (range (goal.at.loop-k-preserved c).After-contains) ∙ c.if-not-contains.false) c.if-vars-atom.false in
+    let q : c.args.part.start + 4 * c.next.new.self.count ≡ c.args.part.start + 4 * c.loop-k.k-iterator.count + 4 = omega (arith, s.2) in
     (omega (arith, ap length s.0, s.2), rw q (sym e ∙ c.loop-k.invariant.1))
 
 pub returns : goal.returns

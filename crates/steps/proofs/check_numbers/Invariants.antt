@@ -2,12 +2,12 @@
 use Prim.Native.Nat.{◌+◌, ◌*◌, ◌≤◌}
 use mathlib.Core.Path.{◌≡◌}
 use lib.ListN.{length}
-use Rattle.paper.specs.Files.{File, payload, codes}
+use Rattle.paper.specs.Files.{File, codes}
 use Rattle.paper.specs.Refusals.{check_numbers}
 use Rattle.lookup.specs.Live.{live}
 use Rattle.steps.proofs.check_numbers.Given as goal
 
 abbrev pub invariant-loop-k : goal.invariant-loop-k
 invariant-loop-k l =
-    (2 * (l.k-iterator.count + length (codes l.k-iterator.iter.bytes.now)) ≤ l.e.size)
-    × ((f : File) → check_numbers (live f l.proof l.words) l.last (l.e.start + 2 * l.k-iterator.count) (codes l.k-iterator.iter.bytes.now) ≡ check_numbers (live f l.proof l.words) 0 l.e.start (codes (payload l.proof l.e)))
+    (2 * (l.k-iterator.count + length (codes l.k-iterator.iter.bytes.now)) ≤ length l.part.bytes.now)
+    × ((f p : File) → check_numbers (live f p l.words) l.last (l.part.start + 2 * l.k-iterator.count) (codes l.k-iterator.iter.bytes.now) ≡ check_numbers (live f p l.words) 0 l.part.start (codes l.part.bytes.now))

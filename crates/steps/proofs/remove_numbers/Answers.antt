@@ -1,20 +1,19 @@
 -- `remove_numbers` clears the listed numbers, from the last to the first. The invariant: those left are to be cleared of what is here.
 use mathlib.Core.Path.{◌≡◌, refl, sym, ◌∙◌}
 use native.Mathlib.Omega.{arith}
-use Rattle.paper.specs.Files.{payload}
 use Rattle.steps.specs.Steps.{removed}
 use Rattle.steps.proofs.Numbers.{removed_last, below_last, below_front}
 use Rattle.steps.proofs.remove_numbers.Goals as goal
 
 pub loop-n-init : goal.loop-n-init
 loop-n-init c =
-    let b : c.into_iter-n-iterator.result.iter.bytes.now ≡ payload c.args.proof.now c.args.e = cc in
-    rw b (c.requires.1.1, refl)
+    let b : c.into_iter-n-iterator.result.iter.bytes.now ≡ c.args.numbers.now = cc in
+    rw b (c.requires.1, refl)
 
 pub remove-requires : goal.remove-requires
 remove-requires c =
     let h = below_last _ (rw c.in-Some.ensures.steps at c.loop-n.invariant.0) in
-    (omega (arith, h, c.loop-n.auto.words), omega (arith, h, c.requires.1.0))
+    (omega (arith, h, c.loop-n.auto.words), omega (arith, h, c.requires.0))
 
 pub loop-n-preserved : goal.loop-n-preserved
 loop-n-preserved c =
