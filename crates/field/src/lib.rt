@@ -20,7 +20,7 @@ pub fn pair_at(s: &[u8], at: usize) -> usize
 pub fn payload(s: &[u8], e: Extent) -> &[u8]
     requires { e.start + e.size ≤ length s.now }
     ensures bytes { result.now ≡ payload s.now e }
-    ensures size { length result.now ≡ e.size }
+    ensures within { e.start + length result.now ≤ length s.now }
 {
     &s[e.start..e.start + e.size]
 }

@@ -32,7 +32,6 @@ use Rattle.lookup.proofs.Table.{used_live, used_length}
 use Rattle.table.proofs.Kept.{zero_value}
 use Rattle.mapping.specs.Mapping.{Fitting, Bare, variables, loaded, unloaded, said_by, table_after}
 use Rattle.mapping.proofs.Images.{fitting, once_distinct, loaded_length, loaded_value, loaded_image_of, unload_loaded, zero_bare}
-use Rattle.clauses.specs.Check as clauses
 use Rattle.steps.specs.declared.Kind.{Kind}
 use Rattle.steps.specs.declared.Kind.TheVariants.{Delete}
 use Rattle.steps.specs.declared.StepRead.{StepRead}
@@ -45,12 +44,6 @@ use Rattle.conditions.specs.Asked.{live_in}
 use Rattle.judging.specs.Step as step
 use Rattle.judging.specs.Step.{outcome, rest, New, NewJudged, JudgementIs, unread, judged, Checkable, Loadable, Ready, words_after, Done}
 
-pub checkable : {f p : File} {at vars next : ℕ} {words t : List ℕ} {s : StepRead} → Checkable f p at s vars next words t
-    → clauses.Checkable p s.fields.clause vars
-checkable {p = p} {at = at} {s = s} c =
-    let l = lie p at s.fields c.read.fields in
-    record { within = l.clause_within; limit = c.ready.variables }
-
 -- 1. A step that is refused as it is read.
 module _ {f p : File} {at vars next : ℕ} {words t : List ℕ} {s : StepRead} (c : Checkable f p at s vars next words t) where
   abbrev F : Formula
@@ -59,19 +52,26 @@ module _ {f p : File} {at vars next : ℕ} {words t : List ℕ} {s : StepRead} (
   abbrev x : Fields
   x = s.fields
 
-  pub clause_stops : (e : Fault) → Err e ≡ result_of (check_clause ProofCode ProofTwice vars x.clause.start (clause_of p x))
+  pub clause_stops : {C : List ℕ} → C ≡ payload p x.clause → (e : Fault) → Err e ≡ result_of (check_clause ProofCode ProofTwice vars x.clause.start (codes C))
       → JudgementIs p vars F next at x (Err e)
-  clause_stops e q = unread (clause_refuses p vars F next at x c.read.fields _ _ (bad_in e _ q))
+  clause_stops ec e q = unread (clause_refuses p vars F next at x c.read.fields _ _ (bad_in e _ (rw ec at q)))
 
-  module _ {o : Unit {0}} (fine : Ok o ≡ result_of (check_clause ProofCode ProofTwice vars x.clause.start (clause_of p x))) where
-    pub mappings_stop : (e : Fault) → Err e ≡ result_of (check_mappings vars x.witness.start (witness_of p x)) → JudgementIs p vars F next at x (Err e)
-    mappings_stop e q = unread (mappings_refuse p vars F next at x c.read.fields (ok_in _ _ fine) _ _ (bad_in e _ q))
+  -- the payloads of the clause and of the witness
+  module _ {C w : List ℕ} (ec : C ≡ payload p x.clause) {o : Unit {0}} (checked : Ok o ≡ result_of (check_clause ProofCode ProofTwice vars x.clause.start (codes C)))
+      (ew : w ≡ payload p x.witness) where
+    fine : check_clause ProofCode ProofTwice vars x.clause.start (clause_of p x) ≡ ok tt
+    fine = ok_in o _ (rw ec at checked)
 
-    -- the payload that is loaded, and the table that it is loaded into
-    module _ {n : Unit {0}} (mapped : Ok n ≡ result_of (check_mappings vars x.witness.start (witness_of p x))) (w : List ℕ) (ew : w ≡ payload p x.witness)
-        (u : List ℕ) (eu : u ≡ t) where
+    pub mappings_stop : (e : Fault) → Err e ≡ result_of (check_mappings vars x.witness.start (mappings (codes w))) → JudgementIs p vars F next at x (Err e)
+    mappings_stop e q = unread (mappings_refuse p vars F next at x c.read.fields fine _ _ (bad_in e _ (rw ew at q)))
+
+    -- the table that the witness is loaded into
+    module _ {n : Unit {0}} (told : Ok n ≡ result_of (check_mappings vars x.witness.start (mappings (codes w)))) (u : List ℕ) (eu : u ≡ t) where
+      mapped : check_mappings vars x.witness.start (witness_of p x) ≡ ok tt
+      mapped = ok_in n _ (rw ew at told)
+
       fits : Fitting (witness_of p x)
-      fits = fitting vars x.witness.start (witness_of p x) c.ready.variables (ok_in n _ mapped)
+      fits = fitting vars x.witness.start (witness_of p x) c.ready.variables mapped
 
       long : 8192 ≤ length t
       long = omega (arith, c.ready.table_long)
@@ -93,7 +93,7 @@ module _ {f p : File} {at vars next : ℕ} {words t : List ℕ} {s : StepRead} (
           → JudgementIs p vars F next at x (Err (record { reason = ProofTwice; place = x.witness.start + i }))
       unfolding said_by
       twice_stops i said =
-          unread (twice_refuses p vars F next at x c.read.fields (ok_in _ _ fine) (ok_in n _ mapped) _ _ (rw ew at (said ProofTwice x.witness.start)))
+          unread (twice_refuses p vars F next at x c.read.fields fine mapped _ _ (rw ew at (said ProofTwice x.witness.start)))
 
       module _ {m : Unit {0}} (said : (why : Reason) (q : ℕ) → no_two why [] 4 q (variables (mappings (codes w))) ≡ said_by why q (Ok m)) (v : List ℕ)
           (ev : v ≡ table_after (Ok m) u (mappings (codes w))) where
@@ -115,8 +115,8 @@ module _ {f p : File} {at vars next : ℕ} {words t : List ℕ} {s : StepRead} (
               clauses = c.ready.clauses;
               kept = c.ready.kept;
               read = c.read;
-              clause = ok_in _ _ fine;
-              mapped = ok_in n _ mapped;
+              clause = fine;
+              mapped = mapped;
               once = once ProofTwice x.witness.start;
               table = record {
                 small = c.ready.variables;
@@ -144,23 +144,23 @@ other_tag : (k : Kind) → k ≢ Delete → tag_of k ≢ 0x14
 other_tag k ne e = ne (tag_once k Delete e)
 
 -- the numbers: the first that is refused; or none, and then the number that a new clause gets
-module _ (p : File) (F : Formula) (at : ℕ) (s : StepRead) (next : ℕ) where
-  pub numbers_stop : (e : Fault) → Err e ≡ result_of (check_numbers F 0 s.fields.numbers.start (numbers_of p s.fields)) → Err e ≡ result_of (rest p F at s next)
+module _ (F : Formula) (at : ℕ) (k : Kind) (start : ℕ) (ns : List ℕ) (next : ℕ) where
+  pub numbers_stop : (e : Fault) → Err e ≡ result_of (check_numbers F 0 start ns) → Err e ≡ result_of (rest F at k start ns next)
   unfolding rest ◌>>◌ result_of
-  numbers_stop e q = rw (bad_in e (check_numbers F 0 s.fields.numbers.start (numbers_of p s.fields)) q) refl
+  numbers_stop e q = rw (bad_in e (check_numbers F 0 start ns) q) refl
 
-  module _ {u : Unit {0}} (fine : Ok u ≡ result_of (check_numbers F 0 s.fields.numbers.start (numbers_of p s.fields))) where
-    pub no_new : s.kind ≡ Delete → Ok tt ≡ result_of (rest p F at s next)
+  module _ {u : Unit {0}} (fine : Ok u ≡ result_of (check_numbers F 0 start ns)) where
+    pub no_new : k ≡ Delete → Ok tt ≡ result_of (rest F at k start ns next)
     unfolding rest ◌>>◌ need result_of
     no_new e = rw (ok_in u _ fine, e) refl
 
-    pub new_fits : s.kind ≢ Delete → next < 16384 → Ok tt ≡ result_of (rest p F at s next)
+    pub new_fits : k ≢ Delete → next < 16384 → Ok tt ≡ result_of (rest F at k start ns next)
     unfolding rest ◌>>◌ need result_of
-    new_fits ne h = rw (ok_in u _ fine, eqb_other (tag_of s.kind) 0x14 (other_tag s.kind ne), leb_within (suc next) 16384 h) refl
+    new_fits ne h = rw (ok_in u _ fine, eqb_other (tag_of k) 0x14 (other_tag k ne), leb_within (suc next) 16384 h) refl
 
-    pub none_left : s.kind ≢ Delete → 16384 ≤ next → Err (record { reason = NumbersUsedUp; place = at }) ≡ result_of (rest p F at s next)
+    pub none_left : k ≢ Delete → 16384 ≤ next → Err (record { reason = NumbersUsedUp; place = at }) ≡ result_of (rest F at k start ns next)
     unfolding rest ◌>>◌ need result_of
-    none_left ne h = rw (ok_in u _ fine, eqb_other (tag_of s.kind) 0x14 (other_tag s.kind ne), leb_beyond (suc next) 16384 (omega arith)) refl
+    none_left ne h = rw (ok_in u _ fine, eqb_other (tag_of k) 0x14 (other_tag k ne), leb_beyond (suc next) 16384 (omega arith)) refl
 
 below_last : {next : ℕ} (at tag : ℕ) → tag ≢ 0x14 → need (eqb tag 0x14 || ltb next 16384) NumbersUsedUp at ≡ ok tt → next < 16384
 unfolding need
@@ -197,60 +197,61 @@ module _ {f p : File} {at vars next : ℕ} {words t : List ℕ} {s : StepRead} (
   pub used_limit : length (take next words) ≤ 16384
   used_limit = omega (arith, rw all_used at (used_length l.clauses in_words), l.last)
 
-  same_rest : rest p G at s next ≡ (check_numbers G 0 s.fields.numbers.start ns >> need (eqb (get_or p at 0) 0x14 || ltb next 16384) NumbersUsedUp at)
-  unfolding rest
-  same_rest = rw l.read.tag refl
+  module _ {numbers : List ℕ} (en : numbers ≡ payload p s.fields.numbers) where
+    same_rest : rest G at s.kind s.fields.numbers.start (codes numbers) next ≡ (check_numbers G 0 s.fields.numbers.start ns >> need (eqb (get_or p at 0) 0x14 || ltb next 16384) NumbersUsedUp at)
+    unfolding rest
+    same_rest = rw (l.read.tag, en) refl
 
-  pub rest_stops : (e : Fault) → Err e ≡ result_of (rest p G at s next) → JudgementIs p vars G next at s.fields (Err e)
-  rest_stops e q = unread (rest_refuses p vars G next at s.fields l.read.fields l.clause l.mapped l.once _ _ (sym same_rest ∙ bad_in e _ q))
+    pub rest_stops : (e : Fault) → Err e ≡ result_of (rest G at s.kind s.fields.numbers.start (codes numbers) next) → JudgementIs p vars G next at s.fields (Err e)
+    rest_stops e q = unread (rest_refuses p vars G next at s.fields l.read.fields l.clause l.mapped l.once _ _ (sym same_rest ∙ bad_in e _ q))
 
-  module _ {u : Unit {0}} (fine : Ok u ≡ result_of (rest p G at s next)) where
-    both : (check_numbers G 0 s.fields.numbers.start ns ≡ ok tt) × (need (eqb (get_or p at 0) 0x14 || ltb next 16384) NumbersUsedUp at ≡ ok tt)
-    both = both_fine _ _ (sym same_rest ∙ ok_in u _ fine)
+    module _ {u : Unit {0}} (fine : Ok u ≡ result_of (rest G at s.kind s.fields.numbers.start (codes numbers) next)) where
+      both : (check_numbers G 0 s.fields.numbers.start ns ≡ ok tt) × (need (eqb (get_or p at 0) 0x14 || ltb next 16384) NumbersUsedUp at ≡ ok tt)
+      both = both_fine _ _ (sym same_rest ∙ ok_in u _ fine)
 
-    right : check_numbers G 0 s.fields.numbers.start ns ≡ ok tt
-    right = both.0
+      right : check_numbers G 0 s.fields.numbers.start ns ≡ ok tt
+      right = both.0
 
-    listed : Listed G 0 ns
-    listed = subst (Then (λ _. Listed G 0 ns)) right (check_numbers_then G 0 s.fields.numbers.start ns)
+      listed : Listed G 0 ns
+      listed = subst (Then (λ _. Listed G 0 ns)) right (check_numbers_then G 0 s.fields.numbers.start ns)
 
-    pub delete_passes : s.kind ≡ Delete → JudgementIs p vars G next at s.fields (Ok tt)
-    unfolding outcome
-    delete_passes d =
-        let e : get_or p at 0 ≡ 0x14 = sym l.read.tag ∙ ap tag_of d in
-        judged {j = Ok tt} (delete_read p vars G next at s.fields l.read.fields l.clause l.mapped l.once right e) (λ ne. absurd (ne e)) listed
-        (rw (delete_tag C σ ns (get_or p at 0) e, eqb_same (get_or p at 0) 0x14 e, outcome) deleted)
+      pub delete_passes : s.kind ≡ Delete → JudgementIs p vars G next at s.fields (Ok tt)
+      unfolding outcome
+      delete_passes d =
+          let e : get_or p at 0 ≡ 0x14 = sym l.read.tag ∙ ap tag_of d in
+          judged {j = Ok tt} (delete_read p vars G next at s.fields l.read.fields l.clause l.mapped l.once right e) (λ ne. absurd (ne e)) listed
+          (rw (delete_tag C σ ns (get_or p at 0) e, eqb_same (get_or p at 0) 0x14 e, outcome) deleted)
 
-    ranged : Ranged vars σ
-    ranged = subst (Then (λ _. Ranged vars σ)) l.mapped (check_mappings_then vars s.fields.witness.start σ)
+      ranged : Ranged vars σ
+      ranged = subst (Then (λ _. Ranged vars σ)) l.mapped (check_mappings_then vars s.fields.witness.start σ)
 
-    module _ (k : Kind) (kind : s.kind ≡ k) (ne : tag_of k ≢ 0x14) where
-      new_tag : get_or p at 0 ≢ 0x14
-      new_tag = rw (← l.read.tag, kind) ne
+      module _ (k : Kind) (kind : s.kind ≡ k) (ne : tag_of k ≢ 0x14) where
+        new_tag : get_or p at 0 ≢ 0x14
+        new_tag = rw (← l.read.tag, kind) ne
 
-      h : next < 16384
-      h = below_last at _ new_tag both.1
+        h : next < 16384
+        h = below_last at _ new_tag both.1
 
-      module _ (clause numbers : List ℕ) (ec : clause ≡ payload p s.fields.clause) (en : numbers ≡ payload p s.fields.numbers) where
-        pub new : (c : Clauses) → live_in c ≡ G → length c.words.now ≤ 16384 → New c k clause numbers vars next t
-        new c is limit =
-            let i = lie p at s.fields l.read.fields in
-            let d = subst (Then (λ _. Codes vars C × Apart C)) l.clause (check_clause_then ProofCode ProofTwice vars s.fields.clause.start C) in
-            record {
-              limit = limit;
-              kept = rw is l.kept;
-              new = rw ec (record { codes = d.0; apart = d.1; number = h });
-              listed = rw (is, en) listed;
-              none_listed = λ b. rw en (no_codes p s.fields.numbers (i.no_numbers (rw (← kind, l.read.tag) at b)));
-              table = l.table;
-              inward = images_inward vars t σ l.table.small l.images (λ v a m. (ranged v a m).2);
-            }
+        module _ {clause : List ℕ} (ec : clause ≡ payload p s.fields.clause) where
+          pub new : (c : Clauses) → live_in c ≡ G → length c.words.now ≤ 16384 → New c k clause numbers vars next t
+          new c is limit =
+              let i = lie p at s.fields l.read.fields in
+              let d = subst (Then (λ _. Codes vars C × Apart C)) l.clause (check_clause_then ProofCode ProofTwice vars s.fields.clause.start C) in
+              record {
+                limit = limit;
+                kept = rw is l.kept;
+                new = rw ec (record { codes = d.0; apart = d.1; number = h });
+                listed = rw (is, en) listed;
+                none_listed = λ b. rw en (no_codes p s.fields.numbers (i.no_numbers (rw (← kind, l.read.tag) at b)));
+                table = l.table;
+                inward = images_inward vars t σ l.table.small l.images (λ v a m. (ranged v a m).2);
+              }
 
-        pub new_judged : (r : Result (Unit {0}) Fault) → NewJudged (live f p (take next words)) k clause numbers vars next t r
-            → JudgementIs p vars G next at s.fields r
-        new_judged r j =
-            judged (new_read p vars G next at s.fields l.read.fields l.clause l.mapped l.once right new_tag h) (λ _. h) listed
-            (rw (used, ec, en, ← kind, l.read.tag) at (j σ l.images))
+          pub new_judged : (r : Result (Unit {0}) Fault) → NewJudged (live f p (take next words)) k clause numbers vars next t r
+              → JudgementIs p vars G next at s.fields r
+          new_judged r j =
+              judged (new_read p vars G next at s.fields l.read.fields l.clause l.mapped l.once right new_tag h) (λ _. h) listed
+              (rw (used, ec, en, ← kind, l.read.tag) at (j σ l.images))
 
 -- 3. The step taken into the clause table.
 module _ {f p : File} {at vars next : ℕ} {words t : List ℕ} (r : Ready f p at vars next words t) where

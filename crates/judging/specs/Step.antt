@@ -28,10 +28,10 @@ outcome F next tag C ns (Ok u) = elim (eqb tag 0x14) [ true ↦ taken (without n
 outcome F next tag C ns (Err e) = stops e.reason e.place
 
 -- what is refused of a step after its clause and its witness: a number that it names, then the number that its new clause gets
-unfoldable pub rest : File → Formula → ℕ → StepRead → ℕ → Read (Unit {0})
-rest p F at s next = do
-  check_numbers F 0 s.fields.numbers.start (codes (payload p s.fields.numbers))
-  need (eqb (tag_of s.kind) 0x14 || ltb next 16384) NumbersUsedUp at
+unfoldable pub rest : Formula → ℕ → Kind → ℕ → List ℕ → ℕ → Read (Unit {0})
+rest F at k start ns next = do
+  check_numbers F 0 start ns
+  need (eqb (tag_of k) 0x14 || ltb next 16384) NumbersUsedUp at
 
 -- A judgement of a RUP, SR or WSR step is asked: its clause and its numbers are fit to be judged, and so are the live clauses; the table
 -- has room for the variables, none of which has a value.

@@ -1,15 +1,15 @@
 // One step of a proof: its fields read, checked in the paper's order, judged, and taken into the clause table.
 #![tactic(auto)]
 
-ghost use Rattle.std.specs.Prelude.{◌≡◌, ◌+◌, ◌≤◌, length};
-ghost use Rattle.paper.specs.Files.{File};
+ghost use Rattle.std.specs.Prelude.{◌≡◌};
+ghost use Rattle.paper.specs.Files.{File, codes};
 ghost use Rattle.field.specs.Field.{result_of};
 ghost use Rattle.lookup.specs.Live.{live};
 ghost use Rattle.steps.specs.declared.Kind.TheVariants.{Rup, Sr, Wsr};
 ghost use Rattle.conditions.specs.Asked.{live_in};
 ghost use Rattle.judging.specs.Step.{rest, New, NewJudged, Checkable, Loadable, JudgementIs, Ready, Done};
 
-use field::{Cursor, Fault};
+use field::{Cursor, Fault, Part};
 use lookup::Clauses;
 use paper::Reason;
 use steps::{Kind, StepRead};
@@ -94,17 +94,16 @@ fn judge_wsr(
 
 // The numbers that a step names (11), then the one that its new clause gets (12).
 fn check_rest(
-    proof: &[u8],
+    numbers: Part,
     first: Cursor,
-    s: StepRead,
+    kind: Kind,
     next: usize,
     words: &[u32],
 ) -> Result<(), Fault>
-    requires { s.fields.numbers.start + s.fields.numbers.size ≤ length proof.now }
-    ensures { (f : File) → result ≡ result_of (rest proof.now (live f proof.now words.now) first.at s next) }
+    ensures { (f p : File) → result ≡ result_of (rest (live f p words.now) first.at kind numbers.entry.start (codes numbers.entry.bytes.now) next) }
 {
-    steps::check_numbers(proof, s.fields.numbers, words)?;
-    match s.kind {
+    steps::check_numbers(numbers, words)?;
+    match kind {
         Kind::Delete => Ok(()),
         _ if next < 16384 => Ok(()),
         _ => Err(Fault {
@@ -129,19 +128,22 @@ fn judge_loaded<'a>(
     ensures answer { JudgementIs proof.now vars (live formula.now proof.now words.now) next first.at s.fields result }
     ensures table { t.new ≡ t.old }
 {
-    check_rest(proof, first, s, next, words)?;
+    let numbers = Part {
+        bytes: field::payload(proof, s.fields.numbers),
+        start: s.fields.numbers.start,
+    };
+    check_rest(numbers, first, s.kind, next, words)?;
     let live = Clauses {
         formula,
         proof,
         words: &words[..next],
     };
     let clause = field::payload(proof, s.fields.clause);
-    let numbers = field::payload(proof, s.fields.numbers);
     // No closure for each kind: there are four, and each is judged by a condition of its own.
     match s.kind {
-        Kind::Rup => judge_rup(live, clause, numbers, vars, next, t),
-        Kind::Sr => judge_sr(live, clause, numbers, vars, next, t),
-        Kind::Wsr => judge_wsr(live, clause, numbers, vars, next, t),
+        Kind::Rup => judge_rup(live, clause, numbers.bytes, vars, next, t),
+        Kind::Sr => judge_sr(live, clause, numbers.bytes, vars, next, t),
+        Kind::Wsr => judge_wsr(live, clause, numbers.bytes, vars, next, t),
         Kind::Delete => Ok(()),
     }
 }
@@ -161,25 +163,24 @@ fn judge_fields<'a>(
     ensures answer { JudgementIs proof.now vars (live formula.now proof.now words.now) next first.at s.fields result }
     ensures table { t.new ≡ t.old }
 {
-    clauses::check_clause(
-        proof,
-        s.fields.clause,
-        vars,
-        Reason::ProofCode,
-        Reason::ProofTwice,
-        t,
-    )?;
-    let w = s.fields.witness;
-    steps::check_mappings(proof, w, vars)?;
-    let witness = field::payload(proof, w);
-    if let Err(i) = mapping::load_witness(witness, t) {
+    let clause = Part {
+        bytes: field::payload(proof, s.fields.clause),
+        start: s.fields.clause.start,
+    };
+    clauses::check_clause(clause, vars, Reason::ProofCode, Reason::ProofTwice, t)?;
+    let witness = Part {
+        bytes: field::payload(proof, s.fields.witness),
+        start: s.fields.witness.start,
+    };
+    steps::check_mappings(witness, vars)?;
+    if let Err(i) = mapping::load_witness(witness.bytes, t) {
         return Err(Fault {
             reason: Reason::ProofTwice,
-            place: w.start + i,
+            place: witness.start + i,
         });
     }
     let judgement = judge_loaded(formula, proof, first, s, vars, next, words, t);
-    mapping::unload_witness(witness, t);
+    mapping::unload_witness(witness.bytes, t);
     judgement
 }
 
@@ -204,7 +205,7 @@ pub fn take_step<'a>(
 {
     let s = steps::read_fields(proof, first)?;
     judge_fields(formula, proof, first, s, vars, next, words, t)?;
-    steps::remove_numbers(proof, s.fields.numbers, words);
+    steps::remove_numbers(field::payload(proof, s.fields.numbers), words);
     let later = s.next;
     match s.kind {
         Kind::Delete => Ok(Taken { next, later }),
