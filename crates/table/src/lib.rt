@@ -1,5 +1,6 @@
 // Two bytes for each variable 0 to 4,095, in 8,192 bytes that the caller lends. The first byte is the variable's value
 // (0 unset, 1 true, 2 false), plus 4 if the witness maps it, plus 8 times the high part of its image's code; the second is the low part.
+// A slice and no struct: a struct over lent bytes would know their length, and each writer would have to say that it holds the same ones.
 #![tactic(auto)]
 
 ghost use Rattle.std.specs.Prelude.{◌≡◌, suc, ◌/◌, ◌%◌, ◌<◌, ◌≤◌, eqb, length};
