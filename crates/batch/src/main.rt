@@ -6,7 +6,7 @@ ghost use Rattle.std.specs.Prelude.{◌+◌, ◌<◌, ◌^◌};
 
 use paper::{Reason, Verdict};
 use std::io;
-use std::io::Read;
+use std::io::{Read, Write};
 
 // What the work memory holds before each call.
 const WORD: u32 = 0xA5A5A5A5;
@@ -46,11 +46,13 @@ fn memory_right(v: Verdict, words: &[u32], bytes: &[u8]) -> bool {
 
 // Prints the line of a verdict, with a word more where the work memory is not left as the paper says.
 fn tell(rt: &HostRuntime, v: Verdict, right: bool) -> io::Result<()> {
-    let text = line::line_of(v);
+    let line = line::line_of(v);
+    let text = &line.bytes[..line.size];
     if right {
-        return print!(rt; "{text}");
+        return rt.stdout().write_all(text);
     }
-    println!(rt; "{} memory", text.trim_end())
+    rt.stdout().write_all(text.trim_ascii_end())?;
+    rt.stdout().write_all(b" memory\n")
 }
 
 // Answers a case, with the work memory that it lends full of rubbish.

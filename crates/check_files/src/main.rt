@@ -4,6 +4,7 @@
 use std::env::FillError;
 use std::fs::File;
 use std::io;
+use std::io::Write;
 use std::rt::Env;
 
 // The bytes of the file that argument i names, read to the start of buf: none where it cannot be read, or has more than buf has room for.
@@ -29,7 +30,10 @@ fn main(rt: HostRuntime) -> io::Result<()> {
     let mut formula = [0u8; 65536];
     let mut proof = [0u8; 65536];
     match (load(&rt, 1, &mut formula), load(&rt, 2, &mut proof)) {
-        (Some(f), Some(p)) => rt.print(cli::answer(f, p)),
+        (Some(f), Some(p)) => {
+            let line = cli::answer(f, p);
+            rt.stdout().write_all(&line.bytes[..line.size])
+        }
         _ => rt.println("unread"),
     }
 }

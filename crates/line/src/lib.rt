@@ -1,15 +1,31 @@
-// The line that the check program prints.
+// The line that the check program prints, as bytes.
 #![tactic(auto)]
 
-ghost use Rattle.std.specs.Prelude.{◌≡◌, ◌+◌, ◌≤◌, ◌∷◌, ◌++◌, length};
-ghost use Rattle.arrayvec.specs.ArrayString.{array_string_len};
+ghost use Rattle.std.specs.Prelude.{◌≡◌, ◌+◌, ◌≤◌, ◌<◌, ◌∷◌, ◌++◌, length, drop};
 ghost use Rattle.paper.specs.Line.{digits, word, line};
+ghost use Rattle.line.specs.Put.{Put, Holds};
 
-use arrayvec::ArrayString;
 use paper::{Numbers, Verdict};
 
-// A line: at most a word of 7 letters, three numbers of 20 digits with a space before each, and its end.
-pub type Line = ArrayString<80>;
+// A text, from a place on; the place past it.
+fn put(out: &mut [u8; 80], at: usize, text: &[u8]) -> usize
+    requires { at + length text.now ≤ 80 }
+    ensures { Put out.old at text.now out.new result }
+{
+    let end = at + text.len();
+    out[at..end].copy_from_slice(text);
+    end
+}
+
+// A space and a number.
+fn put_field(out: &mut [u8; 80], at: usize, n: usize) -> usize
+    requires { at + 21 ≤ 80 }
+    ensures put { Put out.old at (32 ∷ digits 20 n) out.new result }
+    ensures upper_bound { result ≤ at + 21 }
+{
+    let first = put(out, at, b" ");
+    put(out, first, itoa::Buffer::new().format(n).as_bytes())
+}
 
 // The verdict in small letters.
 #[tactic(auto, unfolding(paper::specs::Line::word))]
@@ -24,27 +40,26 @@ fn word(v: Verdict) -> &'static str
     }
 }
 
-// A space and a number, behind what stands there.
-fn push_field(text: &mut Line, n: usize)
-    requires { array_string_len text.old + 21 ≤ 80 }
-    ensures bytes { text.new.bytes ≡ text.old.bytes ++ 32 ∷ digits 20 n }
-    ensures short { array_string_len text.new ≤ array_string_len text.old + 21 }
-{
-    text.push(' ');
-    text.push_str(itoa::Buffer::new().format(n));
+// A line: its bytes stand at the start, and zeros behind them. An array with a size and no text: the zeros are promised too.
+#[derive(Clone, Copy)]
+pub struct Line {
+    pub bytes: [u8; 80],
+    pub size: usize,
 }
 
 // The line of a verdict.
-#[tactic(auto, unfolding(paper::specs::Line::line))]
 pub fn line_of(v: Verdict) -> Line
-    ensures { result.bytes ≡ line v }
+    ensures { Holds result (line v) }
 {
-    let numbers = Numbers::from(v);
-    let mut text = Line::new();
-    text.push_str(word(v));
-    push_field(&mut text, usize::from(numbers.reason));
-    push_field(&mut text, numbers.step);
-    push_field(&mut text, numbers.place);
-    text.push('\n');
-    text
+    let mut out = [0u8; 80];
+    let n = Numbers::from(v);
+    let at = put(&mut out, 0, word(v).as_bytes());
+    let reason = put_field(&mut out, at, usize::from(n.reason));
+    let step = put_field(&mut out, reason, n.step);
+    let place = put_field(&mut out, step, n.place);
+    out[place] = b'\n';
+    Line {
+        bytes: out,
+        size: place + 1,
+    }
 }

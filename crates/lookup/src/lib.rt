@@ -9,6 +9,8 @@ ghost use Rattle.field.specs.Field.{extent_at};
 ghost use Rattle.lookup.specs.Clause.{formula_word, proof_word, Entered, clause_bytes, Stands, onward, lowered, cleared, ClauseTable};
 ghost use Rattle.lookup.specs.Live.{EmptyLive};
 
+use paper::Extent;
+
 // From here on a word is that of a live clause.
 pub const LIVE: u32 = 1048576;
 
@@ -28,8 +30,13 @@ fn payload_at(s: &[u8], at: usize) -> &[u8]
     ensures { result.now ≡ payload s.now (extent_at s.now at) }
 {
     let size = field::pair_at(s, at + 1);
-    let start = at + 3;
-    &s[start..start + size]
+    field::payload(
+        s,
+        Extent {
+            start: at + 3,
+            size,
+        },
+    )
 }
 
 // The clause of number n, as it stands in the formula or in the proof.
@@ -108,6 +115,7 @@ pub fn remove(words: &mut [u32], n: usize)
 pub fn has_empty(live: Clauses) -> bool
     ensures { EmptyLive live.entry.formula.now live.entry.proof.now live.entry.words.now result }
 {
+    // No `any` over the numbers: the proof did not close for the answer that none is empty.
     for n in 0..live.words.len() {
         if LIVE <= live.words[n] && clause_at(live.formula, live.proof, live.words, n).len() < 2 {
             return true;
