@@ -1,12 +1,12 @@
 -- What a caller concludes from the field that must stand at a place; and that the cursor's reading decides it.
 -- Assumes nothing.
 use Prim.Native.Nat.{ℕ, ◌+◌, ◌-◌, ◌≤◌, ◌<◌}
-use mathlib.Core.Path.{◌≡◌, refl, sym, ap, ◌∙◌}
+use mathlib.Core.Path.{◌≡◌, refl, ap, ◌∙◌}
 use mathlib.Core.Logic.{◌≢◌}
 use mathlib.Core.Bool.{Bool, true, false}
 use native.Mathlib.Omega.{arith}
 use lib.Dec.{eqb, leb}
-use lib.ListN.{length, get_or, get_or-eq_default}
+use lib.ListN.{length, get_or}
 use Rattle.paper.specs.declared.Reason.{Reason}
 use Rattle.paper.specs.declared.Extent.{Extent}
 use Rattle.paper.specs.Files.{File, Read, ok, bad, ◌>>◌, need, two, past, field}
@@ -44,25 +44,6 @@ module _ (f : File) (at : ℕ) where
       rw
       e
       (simp (leb_beyond (length f) at h, leb_within (at + 3) (length f) (omega arith), leb_within (at + 3 + two f (at + 1)) (length f) (omega arith), field_at))
-
--- the tag that was read; none at the end
-abbrev pub tag_of : FieldRead → ℕ
-tag_of (Whole t e next) = t
-tag_of (Cut t n) = t
-tag_of (Short t) = t
-tag_of End = 0
-
--- it is the byte at the place, whatever the field is like
-pub tag_read : (f : File) (at : ℕ) (x : FieldRead) (t : ℕ) → x ≡ field_at f at → t ≡ tag_of x → t ≡ get_or f at 0
-unfolding field_at
-tag_read f at x t e h = h ∙ ap tag_of e ∙ go (leb (length f) at) (leb (at + 3) (length f)) (leb (at + 3 + two f (at + 1)) (length f)) refl refl refl
-  where
-    go : (a b c : Bool) → leb (length f) at ≡ a → leb (at + 3) (length f) ≡ b → leb (at + 3 + two f (at + 1)) (length f) ≡ c
-        → tag_of (field_at f at) ≡ get_or f at 0
-    go true b c p q r = rw (p, field_at) (sym (get_or-eq_default f 0 (leb_yes _ _ p)))
-    go false false c p q r = simp (p, q, field_at)
-    go false true false p q r = simp (p, q, r, field_at)
-    go false true true p q r = simp (p, q, r, field_at)
 
 -- what the paper's reading found or refused, by the code's answer
 module _ {A : Type 0} where

@@ -8,7 +8,7 @@ ghost use Rattle.field.specs.Field.{field_at, allowed_by, judged, found_of};
 
 use paper::{Extent, Reason};
 
-// The two bytes at a place, high byte first.
+// The two bytes at a place, high byte first: the sum that the paper gives, and no `from_be_bytes`.
 pub fn pair_at(s: &[u8], at: usize) -> usize
     requires { at + 1 < length s.now }
     ensures { (result ≡ two s.now at) × (result < 65536) }

@@ -113,7 +113,8 @@ fn check_rest(
     }
 }
 
-// The numbers (11, 12), then the conditions; the witness's images stand in the table.
+// The numbers (11, 12), then the conditions; the witness's images stand in the table. No `Clauses` up to here: it holds the words of the
+// numbers in use, and the step is read over all of them.
 fn judge_loaded<'a>(
     formula: &'a [u8],
     proof: &'a [u8],

@@ -1,5 +1,5 @@
 // The proof under reading: its bytes with a place in them. The reader is thin: it is taken apart, and the cursor of `field` reads.
-// `expect` has plain parameters, so whoever calls it sees no reader.
+// `expect` has plain parameters, so whoever calls it sees no reader; beside `field::expect`, since it reads through the reader.
 #![tactic(auto)]
 
 ghost use Rattle.std.specs.Prelude.{◌≡◌, get_or};

@@ -78,9 +78,7 @@ pub record Lie (f : File) (at : ℕ) (x : Fields) : Type 0 where
   pub clause_within : x.clause.start + x.clause.size ≤ length f
   pub witness_within : x.witness.start + x.witness.size ≤ length f
   pub numbers_within : x.numbers.start + x.numbers.size ≤ length f
-  pub clause_even : x.clause.size % 2 ≡ 0
   pub witness_fours : x.witness.size % 4 ≡ 0
-  pub numbers_even : x.numbers.size % 2 ≡ 0
   pub further : at < x.next
   pub inside : x.next ≤ length f
   -- the new clause is the payload of the field whose tag is the step's
@@ -141,9 +139,7 @@ module _ (f : File) (at : ℕ) where
                 clause_within = modulo_lies.within;
                 witness_within = modulo_lies.within;
                 numbers_within = clause_lies.within;
-                clause_even = even_yes n.size modulo_lies.length_allowed;
                 witness_fours = rw none;
-                numbers_even = even_yes c.size clause_lies.length_allowed;
                 further = omega arith;
                 inside = clause_lies.within;
                 new = λ ne. absurd (ne e);
@@ -163,9 +159,7 @@ module _ (f : File) (at : ℕ) where
                 clause_within = clause_lies.within;
                 witness_within = witness_lies.within;
                 numbers_within = modulo_lies.within;
-                clause_even = even_yes c.size clause_lies.length_allowed;
                 witness_fours = fours_yes w.size witness_lies.length_allowed;
-                numbers_even = even_yes n.size modulo_lies.length_allowed;
                 further = omega arith;
                 inside = modulo_lies.within;
                 new = λ _. hc;
