@@ -139,7 +139,7 @@ pub struct Fault {
     pub place: usize,
 }
 
-// The field that must stand at a place; or the fault, at that place.
+// The field that must stand at a place; or the fault, at that place. Its tag is the byte that the paper gives, as in the definitions.
 pub fn expect(s: &[u8], c: Cursor, why: Reason, tag: u8, l: Length) -> Result<Found, Fault>
     ensures { result ≡ found_of (field why tag (allowed_by l) s.now c.at) }
 {

@@ -26,7 +26,8 @@ pub enum Assumed {
     Open,
 }
 
-// Makes the complement of the image of each literal true, up to an image that is true already.
+// Makes the complement of the image of each literal true, up to an image that is true already. An image of 0 is true, one of 1 is false:
+// the codes that a file has.
 pub fn assume_images(clause: &[u8], t: &mut [u8]) -> Assumed
     requires { (8192 ≤ length t.old) × Storable (codes clause.now) }
     ensures answer { result ≡ (imaged t.old (codes clause.now)).answer }

@@ -37,7 +37,7 @@ pub fn field_at(s: &[u8], c: Cursor) -> FieldRead
     next_field(open(s, c))
 }
 
-// The tag at a place of a proof, 0 at its end.
+// The tag at a place of a proof, 0 at its end: no tag is 0, and the definitions read a byte past the end as that.
 pub fn tag_at(s: &[u8], c: Cursor) -> u8
     ensures { result ≡ get_or s.now c.at 0 }
 {
