@@ -16,7 +16,7 @@ pub fn pair_at(s: &[u8], at: usize) -> usize
     usize::from(s[at]) * 256 + usize::from(s[at + 1])
 }
 
-// The payload of a field.
+// The payload of a field. That it lies in the file is asked here alone: what it gives makes a `Part`.
 pub fn payload(s: &[u8], e: Extent) -> &[u8]
     requires { e.start + e.size ≤ length s.now }
     ensures bytes { result.now ≡ payload s.now e }

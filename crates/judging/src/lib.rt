@@ -114,7 +114,7 @@ fn check_rest(
 }
 
 // The numbers (11, 12), then the conditions; the witness's images stand in the table. No `Clauses` up to here: it holds the words of the
-// numbers in use, and the step is read over all of them.
+// numbers in use alone, and cutting them where a step begins is no shorter.
 fn judge_loaded<'a>(
     formula: &'a [u8],
     proof: &'a [u8],
@@ -149,7 +149,8 @@ fn judge_loaded<'a>(
     }
 }
 
-// The clause (9, 10), the witness (9, 10), then the rest with the witness's images in the table, which are cleared again.
+// The clause (9, 10), the witness (9, 10), then the rest with the witness's images in the table, which are cleared again. Files and words
+// as `judge_loaded` has them.
 fn judge_fields<'a>(
     formula: &'a [u8],
     proof: &'a [u8],

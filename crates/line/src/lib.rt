@@ -40,7 +40,7 @@ fn word(v: Verdict) -> &'static str
     }
 }
 
-// A line: its bytes stand at the start, and zeros behind them. An array with a size and no text: the zeros are promised too.
+// A line: its bytes stand at the start, and zeros behind them. An array with a size and no text: `Holds` promises the zeros too.
 #[derive(Clone, Copy)]
 pub struct Line {
     pub bytes: [u8; 80],

@@ -39,7 +39,7 @@ fn payload_at(s: &[u8], at: usize) -> &[u8]
     )
 }
 
-// The clause of number n, as it stands in the formula or in the proof. Not of `Clauses`: it asks less than that knows.
+// The clause of number n, as it stands in the formula or in the proof. Not of `Clauses`: it asks `Stands` of one word, no `ClauseTable`.
 #[tactic(auto, using(crate::proofs::Clause::clause_formula, crate::proofs::Clause::clause_proof))]
 pub fn clause_at<'a>(formula: &'a [u8], proof: &'a [u8], words: &[u32], n: usize) -> &'a [u8]
     requires { (n < length words.now) × (Entered (get_or words.now n 0) × Stands formula.now proof.now (get_or words.now n 0)) }

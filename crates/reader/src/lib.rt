@@ -1,5 +1,6 @@
 // The proof under reading: its bytes with a place in them. The reader is thin: it is taken apart, and the cursor of `field` reads.
-// `expect` has plain parameters, so whoever calls it sees no reader; beside `field::expect`, since it reads through the reader.
+// `expect` has plain parameters, so whoever calls it sees no reader. It stands beside `field::expect` by a rule of the project: the
+// proof is read through the reader (docs/DECISIONS.md).
 #![tactic(auto)]
 
 ghost use Rattle.std.specs.Prelude.{◌≡◌, get_or};

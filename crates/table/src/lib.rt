@@ -1,6 +1,7 @@
 // Two bytes for each variable 0 to 4,095, in 8,192 bytes that the caller lends. The first byte is the variable's value
 // (0 unset, 1 true, 2 false), plus 4 if the witness maps it, plus 8 times the high part of its image's code; the second is the low part.
 // A slice and no struct: a struct over lent bytes would know their length, and each writer would have to say that it holds the same ones.
+// And no array: it asks more than `passes`, `lowest_failing` and `trivialises` do.
 #![tactic(auto)]
 
 ghost use Rattle.std.specs.Prelude.{◌≡◌, suc, ◌/◌, ◌%◌, ◌<◌, ◌≤◌, eqb, length};
@@ -8,7 +9,7 @@ ghost use Rattle.paper.specs.Atoms.{complement};
 ghost use Rattle.table.specs.Table.{value_at, mapped_at, image_at, image_of, set_value, set_image, clear_image, clear_values};
 
 // The value of variable v.
-// A number: as Option<bool>, the best of five bodies took 4 % longer on the inputs random and chain of bench/, a match up to 54 %.
+// A number: as Option<bool> each of five bodies took more than C on some input of bench/run, the number on none (docs/DESIGN-PASS.md).
 #[tactic(auto, unfolding(crate::specs::Table::value_at))]
 pub fn value(t: &[u8], v: usize) -> u8
     requires { (v < 4096) × (8192 ≤ length t.now) }
