@@ -1,23 +1,15 @@
--- The codes of a payload: how many they are, and the first that fails a test.
+-- The codes of a payload: the first that fails a test.
 -- Assumes nothing.
-use Prim.Native.Nat.{ℕ, ◌+◌, ◌*◌, ◌≤◌}
+use Prim.Native.Nat.{ℕ, ◌+◌, ◌*◌}
 use mathlib.Core.Path.{◌≡◌, refl}
 use mathlib.Core.Bool.{Bool, true, false, not}
 use mathlib.Core.List.{List, [], ◌∷◌}
 use native.Mathlib.Omega.{arith}
-use lib.ListN.{length}
 use Rattle.std.proofs.lemmas.Iterator.Adapters.{position_from-zero}
 use Rattle.std.specs.List.{position, position_from}
 use Rattle.paper.specs.declared.Reason.{Reason}
-use Rattle.paper.specs.Files.{codes}
 use Rattle.paper.specs.Refusals.{each}
 use Rattle.clauses.specs.Check.{place_said}
-
-pub codes_fit : (bs : List ℕ) → 2 * length (codes bs) ≤ length bs
-unfolding codes
-codes_fit [] = omega arith
-codes_fit (a ∷ []) = omega arith
-codes_fit (a ∷ b ∷ bs) = omega (arith, codes_fit bs)
 
 -- what the paper says of a list whose numbers are to pass a test, by the first that fails it
 module _ (why : Reason) (good : ℕ → Bool) (p : ℕ) where

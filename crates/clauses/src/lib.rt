@@ -51,7 +51,7 @@ fn variable_twice(part: &[u8], t: &mut [u8]) -> Option<usize>
 }
 
 // A code out of range comes before a variable that stands twice. The fault is the first such code, or the second of a variable.
-#[tactic(auto, using(crate::proofs::Codes::codes_fit))]
+#[tactic(auto, using(codes::proofs::Room::codes_room))]
 pub fn check_clause(
     part: Part,
     vars: usize,

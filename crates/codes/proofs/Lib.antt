@@ -1,3 +1,4 @@
 -- What is proved of a payload read in turn.
 pub mod First
+pub mod Room
 pub mod Once

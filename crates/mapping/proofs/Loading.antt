@@ -20,7 +20,8 @@ use Rattle.table.specs.Table.{value_at, mapped_at, set_image}
 use Rattle.table.proofs.Laws.{length_set_image, first_set_image_other, second_set_image_other, mapped_same, mapped_other, value_set_image}
 use Rattle.table.proofs.Kept.{same_table}
 use Rattle.mapping.specs.Mapping.{variables, Fitting, Bare, loaded, unloaded}
-use Rattle.mapping.proofs.Pairs.{four_each, fits_here, fits_next}
+use Rattle.codes.proofs.Room.{mappings_room}
+use Rattle.mapping.proofs.Pairs.{fits_here, fits_next}
 use Rattle.mapping.proofs.Unloading.{Apart, unload_back, unload_value}
 
 -- one step of the paper's test for a second mapping
@@ -57,7 +58,7 @@ loading_start w t fits bare =
     record {
       fits = fits;
       part = λ v m. m;
-      place = omega (arith, four_each w);
+      place = omega (arith, mappings_room w);
       rest = refl;
       seen = [];
       marks = λ v h. bare_mapped t bare v;

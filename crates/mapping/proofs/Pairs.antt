@@ -1,23 +1,11 @@
 -- The mappings that are left of a witness, and the variables that it lists.
 -- Assumes nothing.
-use Prim.Native.Nat.{ℕ, ◌*◌, ◌≤◌, ◌<◌}
+use Prim.Native.Nat.{ℕ, ◌≤◌, ◌<◌}
 use mathlib.Core.Path.{◌≡◌, refl, ap}
 use mathlib.Core.List.Memᴰ
-use mathlib.Core.List.{List, [], ◌∷◌}
-use native.Mathlib.Omega.{arith}
-use lib.ListN.{length}
+use mathlib.Core.List.{◌∷◌}
 use Rattle.paper.specs.Atoms.{◌∈◌, Witness}
-use Rattle.paper.specs.Files.{codes, mappings}
 use Rattle.mapping.specs.Mapping.{variables, Fitting}
-
--- each mapping has four bytes of the payload
-pub four_each : (w : List ℕ) → 4 * length {A = ℕ × ℕ} (mappings (codes w)) ≤ length w
-unfolding codes mappings
-four_each [] = omega arith
-four_each (a ∷ []) = omega arith
-four_each (a ∷ b ∷ []) = omega arith
-four_each (a ∷ b ∷ c ∷ []) = omega arith
-four_each (a ∷ b ∷ c ∷ d ∷ w) = let k = four_each w in omega arith
 
 -- a variable is listed where a mapping of it is
 pub listed : {v a : ℕ} {s : Witness} → ◌∈◌ {A = ℕ × ℕ} (v, a) s → v ∈ variables s

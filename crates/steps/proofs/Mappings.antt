@@ -3,12 +3,10 @@
 use Prim.Native.Nat.{ℕ, ◌+◌, ◌*◌, ◌≤◌, ◌<◌}
 use mathlib.Core.Path.{◌≡◌}
 use mathlib.Core.Bool.{true, false}
-use mathlib.Core.List.{List, [], ◌∷◌}
-use native.Mathlib.Omega.{arith}
-use lib.ListN.{length}
+use mathlib.Core.List.{◌∷◌}
 use Rattle.paper.specs.declared.Reason.TheVariants.{ProofCode}
 use Rattle.paper.specs.Atoms.{Witness}
-use Rattle.paper.specs.Files.{bad, ◌>>◌, need, codes, mappings}
+use Rattle.paper.specs.Files.{bad, ◌>>◌, need}
 use Rattle.paper.specs.Refusals.{between, check_mappings}
 use Rattle.paper.proofs.Lists.{leb_within, leb_beyond}
 
@@ -25,19 +23,3 @@ module _ (vars p v a : ℕ) {here rest : Witness} (step : here ≡ (v, a) ∷ re
     pub mapping_fine : a ≤ 2 * vars + 1 → check_mappings vars p here ≡ check_mappings vars (p + 4) rest
     unfolding check_mappings need ◌>>◌
     mapping_fine h = rw (step, e, leb_within a (2 * vars + 1) h)
-
--- a code has two bytes, and a mapping two codes
-pub codes_room : (xs : List ℕ) → 2 * length (codes xs) ≤ length xs
-unfolding codes
-codes_room [] = omega arith
-codes_room (a ∷ []) = omega arith
-codes_room (a ∷ b ∷ xs) = let h = codes_room xs in omega arith
-
-pairs_room : (xs : List ℕ) → 2 * length (mappings xs) ≤ length xs
-unfolding mappings
-pairs_room [] = omega arith
-pairs_room (v ∷ []) = omega arith
-pairs_room (v ∷ a ∷ xs) = let h = pairs_room xs in omega arith
-
-pub mappings_room : (xs : List ℕ) → 4 * length (mappings (codes xs)) ≤ length xs
-mappings_room xs = omega (arith, codes_room xs, pairs_room (codes xs))

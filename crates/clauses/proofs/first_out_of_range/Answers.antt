@@ -9,11 +9,11 @@ use Rattle.std.proofs.lemmas.Iterator.Consumers.{YieldsList-from_first}
 use Rattle.std.proofs.lemmas.Iterator.Search.{position_from_yields_List}
 use Rattle.paper.specs.Refusals.{between}
 use Rattle.paper.specs.Files.{codes}
-use Rattle.clauses.proofs.Codes.{codes_fit}
+use Rattle.codes.proofs.Room.{codes_room}
 use Rattle.clauses.proofs.first_out_of_range.Goals as goal
 
 pub position-requires-clause-fits : goal.position-requires-clause-fits
-position-requires-clause-fits c = inl (omega (arith, codes_fit c.of.result.bytes.now))
+position-requires-clause-fits c = inl (omega (arith, codes_room c.of.result.bytes.now))
 
 pub returns-clause-first : goal.returns-clause-first
 unfolding between

@@ -4,14 +4,15 @@ use Prim.Native.Nat.{◌*◌}
 use mathlib.Core.Path.{◌≡◌, sym, ◌∙◌}
 use native.Mathlib.Omega.{arith}
 use Rattle.mapping.specs.Mapping.{said_by, table_after}
-use Rattle.mapping.proofs.Pairs.{fits_here, four_each}
+use Rattle.codes.proofs.Room.{mappings_room}
+use Rattle.mapping.proofs.Pairs.{fits_here}
 use Rattle.mapping.proofs.Loading.{loading_start, loading_turn, loading_twice, loading_back, loading_once, loading_end, place_here}
 use Rattle.mapping.proofs.load_witness.Goals as goal
 
 pub loop-k-init-derived : goal.loop-k-init-derived
 loop-k-init-derived c =
     let e = c.enumerate-k-items.ensures in
-    ((tt, tt, inl (rw (c.into_iter-k-iterator.ensures.into_iter_gives, e.source, e.count, c.mapped.ensures) (omega (arith, four_each c.args.w.now)))), tt)
+    ((tt, tt, inl (rw (c.into_iter-k-iterator.ensures.into_iter_gives, e.source, e.count, c.mapped.ensures) (omega (arith, mappings_room c.args.w.now)))), tt)
 
 pub loop-k-init : goal.loop-k-init
 loop-k-init c =

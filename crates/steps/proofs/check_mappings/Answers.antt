@@ -6,7 +6,8 @@ use lib.ListN.{length}
 use Rattle.std.proofs.Common.{rules}
 use Rattle.paper.specs.Refusals.{between, check_mappings}
 use Rattle.field.specs.Field.{result_of}
-use Rattle.steps.proofs.Mappings.{variable_refused, atom_refused, mapping_fine, mappings_room}
+use Rattle.codes.proofs.Room.{mappings_room}
+use Rattle.steps.proofs.Mappings.{variable_refused, atom_refused, mapping_fine}
 use Rattle.steps.proofs.check_mappings.Goals as goal
 use Rattle.steps.proofs.check_mappings.Goals.{After-contains}
 

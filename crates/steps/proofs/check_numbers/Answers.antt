@@ -5,7 +5,7 @@ use native.Mathlib.Omega.{arith}
 use lib.ListN.{length}
 use Rattle.paper.specs.Refusals.{check_numbers}
 use Rattle.field.specs.Field.{result_of}
-use Rattle.steps.proofs.Mappings.{codes_room}
+use Rattle.codes.proofs.Room.{codes_room}
 use Rattle.steps.proofs.Numbers.{not_above, not_live, too_high, number_fine}
 use Rattle.steps.proofs.check_numbers.Goals as goal
 use Rattle.steps.proofs.check_numbers.Goals.{then-n-last-via-then-n-last, then-n-last-via-else-n-last+then-words-n, then-n-last-via-else-n-last+else-words-n+then-words-n-lt-LIVE}
