@@ -2,7 +2,7 @@
 // byte first: words lent, bytes lent, length of the formula, length of the proof; then the formula, then the proof.
 #![tactic(auto)]
 
-ghost use Rattle.std.specs.Prelude.{◌+◌, ◌<◌, ◌^◌};
+ghost use Rattle.std.specs.Prelude.{◌+◌, ◌<◌, ◌≤◌, ◌^◌, length, IfOk};
 
 use paper::{Reason, Verdict};
 use std::io;
@@ -69,22 +69,48 @@ fn judge<'a>(
     tell(rt, v, memory_right(v, words, bytes))
 }
 
-// Reads until buf is full or the input ends, and answers how many bytes it put at the start of buf.
-fn read_full(rt: &HostRuntime, mut buf: &mut [u8]) -> io::Result<u64> {
-    let size = buf.len() as u64;
-    io::copy(&mut rt.stdin().take(size), &mut buf)
+// Reads until buf is full or the input ends, and answers how many bytes it put at the start of buf. No `io::copy`: it reads by way of a
+// buffer of its own, of 8,192 bytes, which costs more, and loses the rest of a longer message where the input keeps messages apart.
+fn read_full(rt: &HostRuntime, buf: &mut [u8]) -> io::Result<usize>
+    ensures { IfOk result (λ n. n ≤ length buf.new) }
+{
+    let mut done: usize = 0;
+    // No `for`: each read tells where the next one goes on.
+    while done < buf.len() {
+        let n = rt.stdin().read(&mut buf[done..])?;
+        if n == 0 {
+            break;
+        }
+        done += n;
+    }
+    Ok(done)
 }
 
 // Fills a buffer, and answers whether the input had the bytes.
 fn load(rt: &HostRuntime, buf: &mut [u8]) -> io::Result<bool> {
-    let size = buf.len() as u64;
+    let size = buf.len();
     Ok(read_full(rt, buf)? == size)
 }
 
-// A case for which there is no room, with n bytes of files, which are forgotten.
-fn unfit(rt: &HostRuntime, n: usize) -> io::Result<bool> {
+// Reads n bytes and forgets them.
+fn skip(rt: &HostRuntime, buf: &mut [u8], n: usize) -> io::Result<()> {
+    let mut left = n;
+    // No `for`: as many turns as the reads need.
+    while 0 < left {
+        let size = left.min(buf.len());
+        let got = read_full(rt, &mut buf[..size])?;
+        if got == 0 {
+            break;
+        }
+        left -= got;
+    }
+    Ok(())
+}
+
+// A case for which there is no room, with n bytes of files.
+fn unfit(rt: &HostRuntime, buf: &mut [u8], n: usize) -> io::Result<bool> {
     println!(rt; "unfit")?;
-    io::copy(&mut rt.stdin().take(n as u64), &mut io::sink())?;
+    skip(rt, buf, n)?;
     Ok(true)
 }
 
@@ -103,7 +129,7 @@ fn answer(rt: &HostRuntime, head: &[u8; 16], room: &mut Room) -> io::Result<bool
         room.words.get_mut(..number(head, 0)),
         room.bytes.get_mut(..number(head, 4)),
     ) else {
-        return unfit(rt, n + k);
+        return unfit(rt, &mut room.formula, n + k);
     };
     if !load(rt, formula)? || !load(rt, proof)? {
         return cut_short(rt);
