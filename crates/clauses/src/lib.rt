@@ -23,7 +23,8 @@ fn first_out_of_range(part: &[u8], vars: usize) -> Option<usize>
     codes::of(part).position(|code| !(2..=2 * vars + 1).contains(&code))
 }
 
-// Which code is the first whose variable stands in the clause already. The variables before it are marked in the table.
+// Which code is the first whose variable stands in the clause already. The variables before it are marked in the table, all of them
+// where there is none.
 fn first_twice(part: &[u8], t: &mut [u8]) -> Option<usize>
     requires { Storable (codes part.now) × ((8192 ≤ length t.old) × Zero t.old) }
     ensures { Looked part.now t.old t.new result }
@@ -38,7 +39,7 @@ fn first_twice(part: &[u8], t: &mut [u8]) -> Option<usize>
 }
 
 // Which code is the first whose variable stands in the clause already, with the table left as it was.
-#[tactic(auto, using(loading::proofs::Undone::clause_undone, table::proofs::Kept::zero_value))]
+#[tactic(auto, using(codes::proofs::Room::codes_room))]
 fn variable_twice(part: &[u8], t: &mut [u8]) -> Option<usize>
     requires { Storable (codes part.now) × ((8192 ≤ length t.old) × Zero t.old) }
     ensures said { (twice : Reason) (p : ℕ) → no_two twice [] 2 p (variables (codes part.now)) ≡ place_said twice p result }
@@ -46,7 +47,12 @@ fn variable_twice(part: &[u8], t: &mut [u8]) -> Option<usize>
     ensures table { t.new ≡ t.old }
 {
     let found = first_twice(part, t);
-    loading::unset_clause(part, t);
+    // From the code found on none has set a mark.
+    let marked = match found {
+        Some(k) => &part[..2 * k],
+        None => part,
+    };
+    loading::unset_clause(marked, t);
     found
 }
 

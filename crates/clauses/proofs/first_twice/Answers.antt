@@ -22,6 +22,8 @@ returns-then-value-ne0 c =
     let steps = c.in-Some.ensures.steps in
     rw steps.1 (marking_found c.loop-k.invariant.2 _ _ steps.0 (λ z. c.if-value-ne0.true (c.value.ensures ∙ z)))
 
+-- The table has room for the variable,
+-- and a mark is a value.
 pub set_value-requires : goal.set_value-requires
 set_value-requires c =
     let small = step_now c.in-Some.code c.in-Some.ensures.steps.0 c.loop-k.invariant.2.small in
