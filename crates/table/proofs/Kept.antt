@@ -5,7 +5,7 @@ use mathlib.Core.Path.{◌≡◌, refl, sym, ap, ◌∙◌}
 use mathlib.Core.List.{List}
 use native.Mathlib.Omega.{arith}
 use native.Mathlib.Decide.{ℕ_discrete, dec_lt}
-use lib.ListN.{get_or, replicate, length-replicate, get_or-replicate, get_or-eq_default}
+use lib.ListN.{length, get_or, replicate, length-replicate, get_or-replicate, get_or-eq_default}
 use lib.Seq.{ext_get_or}
 use Rattle.table.specs.Table.{Kept, value_at, image_at, image_of, set_value, clear_to, clear_values, Zero}
 use Rattle.table.proofs.Laws.{image_by, image_of_by, length_set_value, first_set_value, second_set_value}
@@ -79,7 +79,11 @@ cleared vars {t} {u} k unset beyond = same_table (kept_clear_to (suc vars) k) ea
         go (yes h) = clear_beyond (suc vars) u v (omega arith) ∙ beyond v h ∙ sym (unset v)
         go (no h) = clear_below (suc vars) u v (omega arith) ∙ sym (unset v)
 
--- zeros are all zero
+-- all zero, in two ways
+pub zero_replicate : (t : List ℕ) → Zero t → t ≡ replicate (length t) 0
+zero_replicate t z =
+    ext_get_or 0 t (replicate (length t) 0) (sym (length-replicate (length t) 0)) (λ i h. z i ∙ sym (get_or-replicate (length t) i 0 0 h))
+
 pub replicate_zero : (n : ℕ) → Zero (replicate n 0)
 replicate_zero n i = go (dec_lt i n)
   where
