@@ -1,15 +1,18 @@
 -- The clause of a word, and the number at which to go on, by the tests that the code makes.
 -- Assumes nothing.
 use Prim.Native.Nat.{ℕ, zero, suc, ◌+◌, ◌-◌, ◌%◌, ◌≤◌, ◌<◌, max}
-use mathlib.Core.Path.{◌≡◌, refl, sym, ◌∙◌}
+use mathlib.Core.Path.{◌≡◌, refl, sym, ap, ◌∙◌}
+use mathlib.Core.Bool.{Bool, true, false}
 use mathlib.Core.List.{List}
 use native.Mathlib.Omega.{arith}
 use native.Mathlib.Numerals.{unary_clauses}
-use lib.ListN.{length, get_or, set}
+use lib.Dec.{leb}
+use lib.ListN.{length, get_or, set, drop, length-drop}
+use lib.Seq.{length-take-le}
 use Rattle.paper.specs.declared.Reason.{Reason}
 use Rattle.paper.specs.declared.Extent.{Extent}
 use Rattle.paper.specs.Files.{File, ok, two, payload, field, even}
-use Rattle.paper.proofs.Lists.{eqb_yes, leb_within, leb_beyond}
+use Rattle.paper.proofs.Lists.{eqb_yes, leb_yes, leb_no, leb_within, leb_beyond}
 use Rattle.field.specs.Field.{extent_at}
 use Rattle.field.proofs.Laws.{stands}
 use Rattle.lookup.specs.Clause.{formula_word, proof_word, Entered, clause_bytes, Whole, Stands, onward, lowered}
@@ -61,6 +64,27 @@ module _ (why : Reason) (tag : ℕ) (f p : File) (at : ℕ) (e : Extent) (small 
   proof_stands q =
       let place : (2097152 + at) % 1048576 ≡ at = omega arith in
       record { in_formula = λ h. absurd (omega arith); in_proof = λ h. rw place (whole_of why tag p at e q) }
+
+-- a clause that stands has an even number of bytes
+payload_length : (f : File) (at : ℕ) → Whole f at → length (payload f (extent_at f at)) ≡ two f (at + 1)
+unfolding payload extent_at
+payload_length f at w =
+    let i = w.inside in
+    let rest : length (drop (at + 3) f) ≡ length f - (at + 3) = length-drop (at + 3) f in
+    length-take-le (two f (at + 1)) (drop (at + 3) f) (omega arith)
+
+pub clause_even : (f p : File) (w : ℕ) → Stands f p w → length (clause_bytes f p w) % 2 ≡ 0
+unfolding clause_bytes
+clause_even f p w s = go (leb 2097152 w) refl
+  where
+    go : (b : Bool) → leb 2097152 w ≡ b
+        → length {A = ℕ} (elim b [ true ↦ payload p (extent_at p (w % 1048576)) | false ↦ payload f (extent_at f (w % 1048576)) ]) % 2 ≡ 0
+    go true q =
+        let h : Whole p (w % 1048576) = s.in_proof (leb_yes 2097152 w q) in
+        ap (λ (n : ℕ). n % 2) (payload_length p (w % 1048576) h) ∙ h.even
+    go false q =
+        let h : Whole f (w % 1048576) = s.in_formula (leb_no 2097152 w q) in
+        ap (λ (n : ℕ). n % 2) (payload_length f (w % 1048576) h) ∙ h.even
 
 -- the number at which to go on, by the word w of the number n, or 0 beyond the table
 module _ (ws : List ℕ) (n w : ℕ) (e : w ≡ get_or ws n 0) where
