@@ -1,17 +1,17 @@
 -- What a caller concludes from the field that must stand at a place; and that the cursor's reading decides it.
 -- Assumes nothing.
 use Prim.Native.Nat.{ℕ, ◌+◌, ◌-◌, ◌≤◌, ◌<◌}
-use mathlib.Core.Path.{◌≡◌, refl, ap, ◌∙◌}
+use mathlib.Core.Path.{◌≡◌, refl, sym, ap, ◌∙◌}
 use mathlib.Core.Logic.{◌≢◌}
 use mathlib.Core.Bool.{Bool, true, false}
 use native.Mathlib.Omega.{arith}
 use lib.Dec.{eqb, leb}
-use lib.ListN.{length, get_or}
+use lib.ListN.{length, get_or, get_or-eq_default}
 use Rattle.paper.specs.declared.Reason.{Reason}
 use Rattle.paper.specs.declared.Extent.{Extent}
 use Rattle.paper.specs.Files.{File, Read, ok, bad, ◌>>◌, need, two, past, field}
-use Rattle.paper.proofs.Lists.{eqb_yes, leb_yes, leb_within, leb_beyond}
-use Rattle.std.specs.Prelude.{Option, None, Result, Ok, Err}
+use Rattle.paper.proofs.Lists.{eqb_yes, eqb_same, eqb_other, leb_yes, leb_within, leb_beyond}
+use Rattle.std.specs.Prelude.{Option, Some, None, Result, Ok, Err}
 use Rattle.std.specs.Option.{ok_or}
 use Rattle.field.specs.declared.Cursor.{Cursor}
 use Rattle.field.specs.declared.FieldRead.{FieldRead}
@@ -45,6 +45,25 @@ module _ (f : File) (at : ℕ) where
       e
       (simp (leb_beyond (length f) at h, leb_within (at + 3) (length f) (omega arith), leb_within (at + 3 + two f (at + 1)) (length f) (omega arith), field_at))
 
+-- the tag that was read; none at the end
+abbrev pub tag_of : FieldRead → ℕ
+tag_of (Whole t e next) = t
+tag_of (Cut t n) = t
+tag_of (Short t) = t
+tag_of End = 0
+
+-- it is the byte at the place, whatever the field is like
+pub tag_read : (f : File) (at : ℕ) (x : FieldRead) (t : ℕ) → x ≡ field_at f at → t ≡ tag_of x → t ≡ get_or f at 0
+unfolding field_at
+tag_read f at x t e h = h ∙ ap tag_of e ∙ go (leb (length f) at) (leb (at + 3) (length f)) (leb (at + 3 + two f (at + 1)) (length f)) refl refl refl
+  where
+    go : (a b c : Bool) → leb (length f) at ≡ a → leb (at + 3) (length f) ≡ b → leb (at + 3 + two f (at + 1)) (length f) ≡ c
+        → tag_of (field_at f at) ≡ get_or f at 0
+    go true b c p q r = rw (p, field_at) (sym (get_or-eq_default f 0 (leb_yes _ _ p)))
+    go false false c p q r = simp (p, q, field_at)
+    go false true false p q r = simp (p, q, r, field_at)
+    go false true true p q r = simp (p, q, r, field_at)
+
 -- what the paper's reading found or refused, by the code's answer
 module _ {A : Type 0} where
   pub ok_in : (a : A) (x : Read A) → Ok a ≡ result_of x → x ≡ ok a
@@ -72,6 +91,31 @@ pub not_found : (b : Fault) (x : Read Extent) → Err b ≡ found_of x → x ≡
 unfolding found_of
 not_found b (ok e) q = let z : ◌≡◌ {A = ℕ} 0 1 = cc in absurd (omega arith)
 not_found b (bad r p) q = let e : b ≡ record { reason = r; place = p } = cc in rw e
+
+-- wrong: the paper's reading refuses, for the reason that was given and at the place of the tag
+pub wrong : (why : Reason) (tag : ℕ) (allowed : ℕ → Bool) (f : File) (at : ℕ) (x : Fault) → Err x ≡ found_of (field why tag allowed f at)
+    → field why tag allowed f at ≡ bad why at
+unfolding field need ◌>>◌ found_of
+wrong why tag allowed f at x q =
+    go (leb (at + 3) (length f)) (eqb (get_or f at 0) tag) (allowed (two f (at + 1))) (leb (at + 3 + two f (at + 1)) (length f)) q
+  where
+    e : Extent
+    e = record { start = at + 3; size = two f (at + 1) }
+
+    read : Bool → Bool → Bool → Bool → Read Extent
+    read a b c d = do
+      need a why at
+      need b why at
+      need c why at
+      need d why at
+      ok e
+
+    go : (a b c d : Bool) → Err x ≡ found_of (read a b c d) → read a b c d ≡ bad why at
+    go false b c d q = refl
+    go true false c d q = refl
+    go true true false d q = refl
+    go true true true false q = refl
+    go true true true true q = let z : ◌≡◌ {A = ℕ} 0 1 = cc in absurd (omega arith)
 
 -- the field that stands at a place, when the paper's reading finds it
 pub record Stands (tag : ℕ) (allowed : ℕ → Bool) (f : File) (at : ℕ) (e : Extent) : Type 0 where
@@ -109,6 +153,20 @@ not_whole tag allowed (Whole t e n) h = absurd (h t e n refl)
 not_whole tag allowed (Cut t n) h = refl
 not_whole tag allowed (Short t) h = refl
 not_whole tag allowed End h = refl
+
+-- and what was, by its tag and its length
+module _ (tag : ℕ) (allowed : ℕ → Bool) (t : ℕ) (e : Extent) (next : Cursor) where
+  pub other_tag : t ≢ tag → None ≡ judged tag allowed (Whole t e next)
+  unfolding judged
+  other_tag ne = rw (eqb_other t tag ne, judged)
+
+  pub right_length : (b : Bool) → t ≡ tag → b ≡ allowed e.size → b ≡ true → Some (record { extent = e; next = next }) ≡ judged tag allowed (Whole t e next)
+  unfolding judged
+  right_length b same q g = rw (eqb_same t tag same, judged) (rw (sym q ∙ g))
+
+  pub wrong_length : (b : Bool) → t ≡ tag → b ≡ allowed e.size → b ≡ false → None ≡ judged tag allowed (Whole t e next)
+  unfolding judged
+  wrong_length b same q g = rw (eqb_same t tag same, judged) (rw (sym q ∙ g))
 
 -- the judgement of the cursor's reading is what the paper's reading finds
 pub judged_right : (why : Reason) (tag : ℕ) (allowed : ℕ → Bool) (f : File) (at : ℕ)
