@@ -39,10 +39,14 @@ pub fn field_at(s: &[u8], c: Cursor) -> FieldRead
 }
 
 // The tag at a place of a proof, 0 at its end: no tag is 0, and the definitions read a byte past the end as that.
+#[tactic(auto, using(field::proofs::Laws::tag_read))]
 pub fn tag_at(s: &[u8], c: Cursor) -> u8
     ensures { result ≡ get_or s.now c.at 0 }
 {
-    s.get(c.at).copied().unwrap_or(0)
+    match field_at(s, c) {
+        FieldRead::Whole { tag, .. } | FieldRead::Cut { tag, .. } | FieldRead::Short { tag } => tag,
+        FieldRead::End => 0,
+    }
 }
 
 // The field that must stand at a place of a proof; or the fault, at that place: what `field::expect` says of any file.
