@@ -1,11 +1,12 @@
 -- The bytes of a line, stored one after the other.
-use Prim.Native.Nat.{ℕ, zero, suc, ◌+◌, ◌-◌, ◌≤◌}
+use Prim.Native.Nat.{ℕ, zero, suc, ◌+◌, ◌-◌, ◌/◌, ◌%◌, ◌≤◌, ◌<◌}
 use native.Mathlib.Nat.{add-zero}
 use native.Mathlib.Omega.{arith}
 use mathlib.Core.Path.{◌≡◌, refl, sym, ap, ◌∙◌}
 use mathlib.Core.List.{List, [], ◌∷◌, ◌++◌}
 use lib.ListN.{length, set, drop, replicate, length-append, length-replicate}
 use lib.Seq.{sets, sets-eq, length-sets}
+use borrow.Author.Tests.{lt-ltb, le-ltb}
 use Rattle.line.specs.Put.{Put, Holds}
 use Rattle.paper.specs.declared.Verdict.{Verdict}
 use Rattle.paper.specs.declared.Numbers.{Numbers}
@@ -16,6 +17,18 @@ use Rattle.paper.specs.Line.{digits, word, line}
 pub sets_append : (l : List ℕ) (i : ℕ) (a b : List ℕ) → sets l i (a ++ b) ≡ sets (sets l i a) (i + length a) b
 sets_append l i [] b = rw add-zero
 sets_append l i (x ∷ a) b = let e : suc i + length a ≡ i + suc (length a) = omega arith in rw e at (sets_append (set l i x) (suc i) a b)
+
+-- a number below ten is its one digit
+pub digits_one : (k n : ℕ) → (k ≡ 0 → ⊥) → n < 10 → digits k n ≡ (48 + n) ∷ []
+unfolding digits
+digits_one zero n k h = absurd (k refl)
+digits_one (suc k) n _ h = simp (lt-ltb _ _ h, digits)
+
+-- any other has the digits of its tenth, and one more
+pub digits_more : (k n : ℕ) → (k ≡ 0 → ⊥) → 10 ≤ n → digits k n ≡ digits (k - 1) (n / 10) ++ ((48 + n % 10) ∷ [])
+unfolding digits
+digits_more zero n k h = absurd (k refl)
+digits_more (suc k) n _ h = let e : suc k - 1 ≡ k = omega arith in rw e (simp (le-ltb _ _ h, digits))
 
 -- a text is what it is equal to
 pub put_same : (old out : List ℕ) (at r : ℕ) {a b : List ℕ} → a ≡ b → Put old at b out r → Put old at a out r
