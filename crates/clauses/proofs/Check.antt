@@ -2,7 +2,7 @@
 -- Assumes nothing.
 use Prim.Native.Nat.{ℕ, ◌+◌, ◌*◌, ◌≤◌, ◌<◌}
 use mathlib.Core.Path.{◌≡◌}
-use mathlib.Core.Bool.{not}
+use mathlib.Core.Bool.{true, false, not}
 use mathlib.Core.List.{[]}
 use native.Mathlib.Omega.{arith}
 use Rattle.std.proofs.Common.{Some, None, Ok, Err}
@@ -12,10 +12,25 @@ use Rattle.paper.specs.declared.Reason.TheVariants.{FormulaCode}
 use Rattle.paper.specs.Atoms.{◌∈◌, Clause}
 use Rattle.paper.specs.Files.{ok, bad, ◌>>◌}
 use Rattle.paper.specs.Refusals.{no_two, between, check_clause}
+use Rattle.paper.proofs.Lists.{leb_within, leb_beyond}
 use Rattle.paper.proofs.Reading.{each_then, between_yes}
 use Rattle.field.specs.Field.{result_of}
 use Rattle.clauses.specs.Check.{variables}
 use Rattle.clauses.proofs.Codes.{each_position}
+
+-- a range, by a code's comparisons
+module _ (low high x : ℕ) where
+  pub between_below : x < low → between low high x ≡ false
+  unfolding between
+  between_below h = rw (leb_beyond low x h)
+
+  pub between_above : low ≤ x → high < x → between low high x ≡ false
+  unfolding between
+  between_above h k = rw (leb_within low x h, leb_beyond x high k)
+
+  pub between_within : low ≤ x → x ≤ high → between low high x ≡ true
+  unfolding between
+  between_within h k = rw (leb_within low x h, leb_within x high k)
 
 module _ (vars : ℕ) (C : Clause) where
   -- the fault, or none: a code out of range comes first

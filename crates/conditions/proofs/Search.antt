@@ -139,7 +139,7 @@ module _ (F : Formula) (C : Clause) (modulo t : List ℕ) where
   Passed n = (k : ℕ) → k < n → Passing k
 
 -- the clause of number n, by the bytes that its word stands for
-number_live : (f p : File) (ws : List ℕ) {n : ℕ} {d : List ℕ} → n < length ws → Entered (get_or ws n 0) → d ≡ clause_bytes f p (get_or ws n 0)
+pub number_live : (f p : File) (ws : List ℕ) {n : ℕ} {d : List ℕ} → n < length ws → Entered (get_or ws n 0) → d ≡ clause_bytes f p (get_or ws n 0)
     → Live (live f p ws) n (codes d)
 number_live f p ws h ne e = live_in f p ws (record { within = h; entered = ne; clause = ap codes e })
 

@@ -29,7 +29,7 @@ module _ (f : File) where
 
   module _ (d : Found) (q : Ok d ≡ found_of (field FormulaField 0x01 four f 0)) where
     -- HEAD takes the first seven bytes
-    head_size : d.extent.size ≡ 4
+    pub head_size : d.extent.size ≡ 4
     unfolding four
     head_size = eqb_yes d.extent.size 4 (stands FormulaField 0x01 four f 0 d.extent (found_in d _ q)).length_allowed
 
