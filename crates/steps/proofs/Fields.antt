@@ -78,7 +78,9 @@ pub record Lie (f : File) (at : ℕ) (x : Fields) : Type 0 where
   pub clause_within : x.clause.start + x.clause.size ≤ length f
   pub witness_within : x.witness.start + x.witness.size ≤ length f
   pub numbers_within : x.numbers.start + x.numbers.size ≤ length f
+  pub clause_even : x.clause.size % 2 ≡ 0
   pub witness_fours : x.witness.size % 4 ≡ 0
+  pub numbers_even : x.numbers.size % 2 ≡ 0
   pub further : at < x.next
   pub inside : x.next ≤ length f
   -- the new clause is the payload of the field whose tag is the step's
@@ -87,42 +89,42 @@ pub record Lie (f : File) (at : ℕ) (x : Fields) : Type 0 where
 
 -- 3. The paper's reading of a step's fields, by what stands at each place. c, w and n are the fields found one after the other.
 module _ (f : File) (at : ℕ) where
-  tag_refused : between 0x11 0x14 (get_or f at 0) ≡ false → read_fields f at ≡ bad ProofField at
+  pub tag_refused : between 0x11 0x14 (get_or f at 0) ≡ false → read_fields f at ≡ bad ProofField at
   unfolding read_fields need ◌>>◌ ◌>>=◌
   tag_refused t = rw (t, read_fields)
 
   module _ (t : between 0x11 0x14 (get_or f at 0) ≡ true) where
-    clause_refused : (r : Reason) (p : ℕ) → field ProofField (get_or f at 0) even f at ≡ bad r p → read_fields f at ≡ bad r p
+    pub clause_refused : (r : Reason) (p : ℕ) → field ProofField (get_or f at 0) even f at ≡ bad r p → read_fields f at ≡ bad r p
     unfolding read_fields need ◌>>◌ ◌>>=◌
     clause_refused r p q = rw (t, q, read_fields)
 
     module _ (c : Extent) (hc : field ProofField (get_or f at 0) even f at ≡ ok c) where
-      clause_lies : Stands (get_or f at 0) even f at c
+      pub clause_lies : Stands (get_or f at 0) even f at c
       clause_lies = stands ProofField (get_or f at 0) even f at c hc
 
-      witness_refused : (r : Reason) (p : ℕ) → field_if (between 0x12 0x13 (get_or f at 0)) 0x21 fours f (past c) ≡ bad r p → read_fields f at ≡ bad r p
+      pub witness_refused : (r : Reason) (p : ℕ) → field_if (between 0x12 0x13 (get_or f at 0)) 0x21 fours f (past c) ≡ bad r p → read_fields f at ≡ bad r p
       unfolding read_fields need ◌>>◌ ◌>>=◌
       witness_refused r p q = rw (t, hc, q, read_fields)
 
       module _ (w : Extent) (hw : field_if (between 0x12 0x13 (get_or f at 0)) 0x21 fours f (past c) ≡ ok w) where
-        witness_lies : LiesIf (between 0x12 0x13 (get_or f at 0)) fours f (past c) w
+        pub witness_lies : LiesIf (between 0x12 0x13 (get_or f at 0)) fours f (past c) w
         unfolding past fours
         witness_lies = lies_if (between 0x12 0x13 (get_or f at 0)) 0x21 fours f (past c) w refl clause_lies.within hw
 
-        modulo_refused : (r : Reason) (p : ℕ) → field_if (eqb (get_or f at 0) 0x13) 0x22 even f (past w) ≡ bad r p → read_fields f at ≡ bad r p
+        pub modulo_refused : (r : Reason) (p : ℕ) → field_if (eqb (get_or f at 0) 0x13) 0x22 even f (past w) ≡ bad r p → read_fields f at ≡ bad r p
         unfolding read_fields need ◌>>◌ ◌>>=◌
         modulo_refused r p q = rw (t, hc, hw, q, read_fields)
 
         module _ (n : Extent) (hn : field_if (eqb (get_or f at 0) 0x13) 0x22 even f (past w) ≡ ok n) where
-          modulo_lies : LiesIf (eqb (get_or f at 0) 0x13) even f (past w) n
+          pub modulo_lies : LiesIf (eqb (get_or f at 0) 0x13) even f (past w) n
           unfolding past even
           modulo_lies = lies_if (eqb (get_or f at 0) 0x13) 0x22 even f (past w) n refl witness_lies.within hn
 
-          delete_read : get_or f at 0 ≡ 0x14 → read_fields f at ≡ ok (record { clause = n; witness = n; numbers = c; next = past c })
+          pub delete_read : get_or f at 0 ≡ 0x14 → read_fields f at ≡ ok (record { clause = n; witness = n; numbers = c; next = past c })
           unfolding read_fields need ◌>>◌ ◌>>=◌
           delete_read e = rw (t, hc, hw, hn, eqb_same (get_or f at 0) 0x14 e, read_fields)
 
-          clause_read : get_or f at 0 ≢ 0x14 → read_fields f at ≡ ok (record { clause = c; witness = w; numbers = n; next = past n })
+          pub clause_read : get_or f at 0 ≢ 0x14 → read_fields f at ≡ ok (record { clause = c; witness = w; numbers = n; next = past n })
           unfolding read_fields need ◌>>◌ ◌>>=◌
           clause_read ne = rw (t, hc, hw, hn, eqb_other (get_or f at 0) 0x14 ne, read_fields)
 
@@ -139,7 +141,9 @@ module _ (f : File) (at : ℕ) where
                 clause_within = modulo_lies.within;
                 witness_within = modulo_lies.within;
                 numbers_within = clause_lies.within;
+                clause_even = even_yes n.size modulo_lies.length_allowed;
                 witness_fours = rw none;
+                numbers_even = even_yes c.size clause_lies.length_allowed;
                 further = omega arith;
                 inside = clause_lies.within;
                 new = λ ne. absurd (ne e);
@@ -159,7 +163,9 @@ module _ (f : File) (at : ℕ) where
                 clause_within = clause_lies.within;
                 witness_within = witness_lies.within;
                 numbers_within = modulo_lies.within;
+                clause_even = even_yes c.size clause_lies.length_allowed;
                 witness_fours = fours_yes w.size witness_lies.length_allowed;
+                numbers_even = even_yes n.size modulo_lies.length_allowed;
                 further = omega arith;
                 inside = modulo_lies.within;
                 new = λ _. hc;

@@ -4,11 +4,21 @@ use Prim.Native.Nat.{ℕ, ◌+◌, ◌*◌, ◌≤◌, ◌<◌}
 use mathlib.Core.Path.{◌≡◌}
 use mathlib.Core.Bool.{true, false}
 use mathlib.Core.List.{◌∷◌}
+use lib.Dec.{leb}
 use Rattle.paper.specs.declared.Reason.TheVariants.{ProofCode}
 use Rattle.paper.specs.Atoms.{Witness}
 use Rattle.paper.specs.Files.{bad, ◌>>◌, need}
 use Rattle.paper.specs.Refusals.{between, check_mappings}
 use Rattle.paper.proofs.Lists.{leb_within, leb_beyond}
+
+-- a range, by the tests of the code
+pub below : (low high x : ℕ) → x < low → false ≡ between low high x
+unfolding between
+below low high x h = rw (leb_beyond low x h)
+
+pub not_below : (low high x : ℕ) → low ≤ x → leb x high ≡ between low high x
+unfolding between
+not_below low high x h = rw (leb_within low x h)
 
 module _ (vars p v a : ℕ) {here rest : Witness} (step : here ≡ (v, a) ∷ rest) where
   pub variable_refused : between 1 vars v ≡ false → check_mappings vars p here ≡ bad ProofCode p

@@ -1,21 +1,32 @@
 -- The paper's reading of a step, part by part: the first part that refuses, refuses the step.
 -- Assumes nothing.
-use Prim.Native.Nat.{ℕ, suc, ◌<◌}
+use Prim.Native.Nat.{ℕ, suc, ◌≤◌, ◌<◌}
 use mathlib.Core.Path.{◌≡◌}
 use mathlib.Core.Logic.{◌≢◌}
 use mathlib.Core.List.{List, [], map}
-use mathlib.Core.Bool.{◌||◌}
+use mathlib.Core.Bool.{Bool, true, false, ◌||◌}
 use native.Mathlib.Omega.{arith}
 use lib.Dec.{eqb, ltb}
 use lib.ListN.{get_or}
 use Rattle.paper.specs.declared.Reason.{Reason}
-use Rattle.paper.specs.declared.Reason.TheVariants.{ProofCode, ProofTwice, NumbersUsedUp}
+use Rattle.paper.specs.declared.Reason.TheVariants.{ProofField, ProofCode, ProofTwice, NumbersUsedUp}
 use Rattle.paper.specs.declared.Extent.{Extent}
 use Rattle.paper.specs.declared.Fields.{Fields}
 use Rattle.paper.specs.Atoms.{Clause, Formula, Witness}
 use Rattle.paper.specs.Files.{File, Read, ok, bad, ◌>>=◌, ◌>>◌, need, payload, codes, mappings, Step, delete_step}
-use Rattle.paper.specs.Refusals.{no_two, check_clause, read_fields, check_mappings, check_numbers, to_step, read_step}
-use Rattle.paper.proofs.Lists.{eqb_same, eqb_other, leb_within}
+use Rattle.paper.specs.Refusals.{no_two, check_clause, field_if, read_fields, check_mappings, check_numbers, to_step, read_step}
+use Rattle.paper.proofs.Lists.{eqb_same, eqb_other, leb_within, leb_beyond}
+use Rattle.std.specs.Prelude.{Err}
+use Rattle.field.specs.declared.Fault.{Fault}
+use Rattle.field.specs.Field.{found_of}
+use Rattle.field.proofs.Laws.{wrong}
+
+-- a field that the step's tag may ask for is refused at its place
+pub wrong_if : (b : Bool) (tag : ℕ) (allowed : ℕ → Bool) (f : File) (at : ℕ) (e : Fault) → Err e ≡ found_of (field_if b tag allowed f at)
+    → field_if b tag allowed f at ≡ bad ProofField at
+unfolding field_if found_of
+wrong_if true tag allowed f at e q = wrong ProofField tag allowed f at e q
+wrong_if false tag allowed f at e q = let z : ◌≡◌ {A = ℕ} 0 1 = cc in absurd (omega arith)
 
 -- a field that the step does not have holds no code and no mapping
 pub no_codes : (f : File) (x : Extent) → x.size ≡ 0 → codes (payload f x) ≡ []
@@ -73,7 +84,16 @@ module _ (f : File) (vars : ℕ) (F : Formula) (next at : ℕ) where
               let k : Read (Step × ℕ) = ok (to_step (get_or f at 0) (clause_of f x) (witness_of f x) (numbers_of f x), x.next) in
               rw (hx, read_step) (rw (hc, hm, ht) (refused_then (check_numbers F 0 x.numbers.start (numbers_of f x)) n k r p q))
 
+          pub numbers_refuse : (r : Reason) (p : ℕ) → check_numbers F 0 x.numbers.start (numbers_of f x) ≡ bad r p
+              → read_step f vars F next at ≡ bad r p
+          unfolding read_step ◌>>=◌ ◌>>◌
+          numbers_refuse r p q = rw (hx, read_step) (rw (hc, hm, ht, q))
+
           module _ (hn : check_numbers F 0 x.numbers.start (numbers_of f x) ≡ ok tt) where
+            pub used_up : get_or f at 0 ≢ 0x14 → 16384 ≤ next → read_step f vars F next at ≡ bad NumbersUsedUp at
+            unfolding read_step ◌>>=◌ ◌>>◌ need
+            used_up ne h = rw (hx, read_step) (rw (hc, hm, ht, hn, eqb_other (get_or f at 0) 0x14 ne, leb_beyond (suc next) 16384 (omega arith)))
+
             pub new_read : get_or f at 0 ≢ 0x14 → next < 16384
                 → read_step f vars F next at ≡ ok (to_step (get_or f at 0) (clause_of f x) (witness_of f x) (numbers_of f x), x.next)
             unfolding read_step ◌>>=◌ ◌>>◌ need
