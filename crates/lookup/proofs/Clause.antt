@@ -7,7 +7,7 @@ use mathlib.Core.List.{List}
 use native.Mathlib.Omega.{arith}
 use native.Mathlib.Numerals.{unary_clauses}
 use lib.Dec.{leb}
-use lib.ListN.{length, get_or, set, drop, length-drop}
+use lib.ListN.{length, get_or, set, drop, length-drop, get_or-eq_default}
 use lib.Seq.{length-take-le}
 use Rattle.paper.specs.declared.Reason.{Reason}
 use Rattle.paper.specs.declared.Extent.{Extent}
@@ -95,6 +95,17 @@ module _ (ws : List ℕ) (n w : ℕ) (e : w ≡ get_or ws n 0) where
   pub onward_further : w < 1048576 → max n w ≡ onward ws n
   unfolding onward
   onward_further h = rw (e, leb_beyond 1048576 (get_or ws n 0) (omega arith), onward)
+
+  pub onward_here : w < 1048576 → w < n → n ≡ onward ws n
+  onward_here h k = let m : n ≡ max n w = omega arith in m ∙ onward_further h
+
+  pub onward_later : w < 1048576 → n ≤ w → w ≡ onward ws n
+  onward_later h k = let m : w ≡ max n w = omega arith in m ∙ onward_further h
+
+pub onward_beyond : (ws : List ℕ) (n : ℕ) → length ws ≤ n → n ≡ onward ws n
+onward_beyond ws n h =
+    let m : n ≡ max n 0 = omega arith in
+    m ∙ onward_further ws n 0 (sym (get_or-eq_default ws 0 h)) (omega arith)
 
 -- the words right below a number that was cleared: one that is that of a clause, one that is not, and the end
 module _ (ws : List ℕ) (e : ℕ) where
