@@ -8,8 +8,9 @@ use native.Mathlib.Omega.{arith}
 use lib.Dec.{eqb}
 use lib.ListN.{length, get_or}
 use native.Mathlib.Decide.{ℕ_discrete}
-use Rattle.std.specs.Prelude.{Result, Ok, Err, MatchResult}
-use Rattle.std.specs.Result.{result_or}
+use Rattle.std.specs.Prelude.{Option, Some, None, Result, Ok, Err, MatchResult}
+use Rattle.std.specs.Option.{ok_or}
+use Rattle.std.specs.Result.{result_or, result_ok}
 use Rattle.std.proofs.lemmas.Result.{MatchResult-at_ok, MatchResult-at_err}
 use Rattle.paper.specs.declared.Reason.{Reason}
 use Rattle.paper.specs.declared.Reason.TheVariants.{ProofField}
@@ -22,17 +23,25 @@ use Rattle.paper.proofs.Reading.{Then, then_bind, then_seq, need_then, between_y
 use Rattle.field.specs.declared.Found.{Found}
 use Rattle.field.specs.declared.Fault.{Fault}
 use Rattle.field.specs.Field.{found_of}
-use Rattle.field.proofs.Laws.{found_in, found_next, not_found, Stands, stands}
+use Rattle.field.proofs.Laws.{found_in, found_next, not_found, Stands, stands, judged_right}
 use Rattle.steps.specs.declared.Kind.{Kind}
 use Rattle.steps.specs.declared.Kind.TheVariants.{Rup, Sr, Wsr, Delete}
 use Rattle.steps.specs.declared.UnknownTag.{UnknownTag}
-use Rattle.steps.specs.Steps.{kind_of, tag_of, IsRead}
+use Rattle.steps.specs.Steps.{kind_of, tag_of, missing, IsRead}
 
 -- 1. A field that the step's tag may ask for.
 module _ (b : Bool) (tag : ℕ) (allowed : ℕ → Bool) (f : File) (at : ℕ) where
-  pub asked : b ≡ true → (r : Result Found Fault) → r ≡ found_of (field ProofField tag allowed f at) → r ≡ found_of (field_if b tag allowed f at)
+  -- the fault that is let go is the one that is given back
+  same_fault : (o : Option Found) (m : Fault) → ok_or (result_ok (ok_or o m)) m ≡ ok_or o m
+  same_fault None m = refl
+  same_fault (Some d) m = refl
+
+  pub asked : b ≡ true → (r : Result Found Fault) → r ≡ found_of (field ProofField tag allowed f at) → (o : Option Found) → o ≡ result_ok r
+      → ok_or o (missing at) ≡ found_of (field_if b tag allowed f at)
   unfolding field_if
-  asked e r q = rw e q
+  asked e r q o h =
+      let j = judged_right ProofField tag allowed f at in
+      rw e (ap (λ (x : Option Found). ok_or x (missing at)) (h ∙ ap result_ok q) ∙ ap (λ (x : Result Found Fault). ok_or (result_ok x) (missing at)) (sym j) ∙ same_fault _ _ ∙ j)
 
   pub not_asked : b ≡ false → Ok (record { extent = record { start = at; size = 0 }; next = record { at = at } }) ≡ found_of (field_if b tag allowed f at)
   unfolding field_if found_of past

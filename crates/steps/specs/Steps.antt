@@ -1,8 +1,10 @@
 -- What the code's answers say in the paper's words, and the clause table cleared of a list of numbers.
 use Rattle.std.specs.Prelude.{ℕ, ◌≡◌, ◌<◌, true, false, List, [], ◌∷◌, eqb, get_or, Result, Ok, Err}
+use Rattle.paper.specs.declared.Reason.TheVariants.{ProofField}
 use Rattle.paper.specs.Atoms.{◌∈◌}
 use Rattle.paper.specs.Files.{File, ok}
 use Rattle.paper.specs.Refusals.{read_fields}
+use Rattle.field.specs.declared.Fault.{Fault}
 use Rattle.lookup.specs.Clause.{cleared}
 use Rattle.steps.specs.declared.Kind.{Kind}
 use Rattle.steps.specs.declared.Kind.TheVariants.{Rup, Sr, Wsr, Delete}
@@ -22,6 +24,10 @@ tag_of Rup = 0x11
 tag_of Sr = 0x12
 tag_of Wsr = 0x13
 tag_of Delete = 0x14
+
+-- what is wrong where a field does not stand that must
+abbrev pub missing : ℕ → Fault
+missing at = record { reason = ProofField; place = at }
 
 -- the step at a place: its kind by its tag, its fields as the paper reads them, and the cursor past them
 pub record IsRead (f : File) (at : ℕ) (s : StepRead) : Type 0 where

@@ -3,11 +3,12 @@
 #![tactic(auto)]
 
 ghost use Rattle.std.specs.Prelude.{◌≡◌, ◌≤◌, length, eqb, MatchResult};
+ghost use Rattle.std.specs.Option.{ok_or};
 ghost use Rattle.paper.specs.Files.{File, bad, codes, mappings};
 ghost use Rattle.paper.specs.Refusals.{between, field_if, read_fields, check_mappings, check_numbers};
 ghost use Rattle.field.specs.Field.{allowed_by, found_of, result_of};
 ghost use Rattle.lookup.specs.Live.{live};
-ghost use Rattle.steps.specs.Steps.{tag_of, kind_of, IsRead, removed, Below};
+ghost use Rattle.steps.specs.Steps.{tag_of, kind_of, missing, IsRead, removed, Below};
 
 use field::{Cursor, Fault, Found, Length, Part};
 use paper::{Extent, Fields, Reason};
@@ -64,14 +65,15 @@ pub struct StepRead {
     pub next: Cursor,
 }
 
-// A field that stands at a place only if the step's tag asks for it; else nothing stands there.
-fn expect_if(s: &[u8], asked: bool, c: Cursor, tag: u8, l: Length) -> Result<Found, Fault>
-    ensures { result ≡ found_of (field_if asked tag (allowed_by l) s.now c.at) }
+// A field that stands at a place only if the step's tag asks for it; else nothing stands there. No Result: its fault shares the bytes of
+// the extent, which each step then takes apart and puts together again.
+fn expect_if(s: &[u8], asked: bool, c: Cursor, tag: u8, l: Length) -> Option<Found>
+    ensures { ok_or result (missing c.at) ≡ found_of (field_if asked tag (allowed_by l) s.now c.at) }
 {
     if asked {
-        return reader::expect(s, c, tag, l);
+        return reader::expect(s, c, tag, l).ok();
     }
-    Ok(Found {
+    Some(Found {
         extent: Extent {
             start: c.at,
             size: 0,
@@ -80,18 +82,29 @@ fn expect_if(s: &[u8], asked: bool, c: Cursor, tag: u8, l: Length) -> Result<Fou
     })
 }
 
+// What is wrong where a field does not stand that must.
+fn missing(c: Cursor) -> Fault
+    ensures { result ≡ missing c.at }
+{
+    Fault {
+        reason: Reason::ProofField,
+        place: c.at,
+    }
+}
+
 // Each field is read by the cursor that the one before it handed back.
 pub fn read_fields(proof: &[u8], first: Cursor) -> Result<StepRead, Fault>
     ensures { MatchResult result (λ s. IsRead proof.now first.at s) (λ e. read_fields proof.now first.at ≡ bad e.reason e.place) }
 {
     let tag = reader::tag_at(proof, first);
-    let kind = Kind::try_from(tag).or(Err(Fault {
-        reason: Reason::ProofField,
-        place: first.at,
-    }))?;
+    let kind = Kind::try_from(tag).or(Err(missing(first)))?;
     let one = reader::expect(proof, first, tag, Length::Even)?;
-    let witness = expect_if(proof, kind.has_witness(), one.next, 0x21, Length::Fours)?;
-    let modulo = expect_if(proof, kind.has_modulo(), witness.next, 0x22, Length::Even)?;
+    let Some(witness) = expect_if(proof, kind.has_witness(), one.next, 0x21, Length::Fours) else {
+        return Err(missing(one.next));
+    };
+    let Some(modulo) = expect_if(proof, kind.has_modulo(), witness.next, 0x22, Length::Even) else {
+        return Err(missing(witness.next));
+    };
     match kind {
         Kind::Delete => Ok(StepRead {
             kind,

@@ -3,7 +3,7 @@ use Rattle.steps.proofs.Fields.{asked, not_asked}
 use Rattle.steps.proofs.expect_if.Goals as goal
 
 pub returns-then-asked : goal.returns-then-asked
-returns-then-asked c = asked _ _ _ _ _ c.if-asked.true _ c.expect.ensures
+returns-then-asked c = asked _ _ _ _ _ c.if-asked.true _ c.expect.ensures _ c.ok.ensures.value
 
 pub returns : goal.returns
 returns c = not_asked _ _ _ _ _ c.if-asked.false
