@@ -16,7 +16,7 @@ use Rattle.paper.specs.declared.Fields.{Fields}
 use Rattle.paper.specs.Atoms.{Clause, Formula, Witness}
 use Rattle.paper.specs.Files.{File, Read, ok, bad, ◌>>◌, payload, need, past, codes, mappings}
 use Rattle.paper.specs.Conditions.{without, after}
-use Rattle.paper.specs.Refusals.{no_two, check_clause, read_fields, check_mappings, check_numbers}
+use Rattle.paper.specs.Refusals.{each, no_two, check_clause, read_fields, check_mappings, check_numbers}
 use Rattle.paper.specs.Answers.{Outcome, taken, Judged, deleted}
 use Rattle.paper.proofs.Lists.{eqb_same, eqb_other, leb_yes, leb_within, leb_beyond}
 use Rattle.paper.specs.Valid.{Codes, Apart, Listed}
@@ -253,7 +253,29 @@ module _ {f p : File} {at vars next : ℕ} {words t : List ℕ} {s : StepRead} (
               judged (new_read p vars G next at s.fields l.read.fields l.clause l.mapped l.once right new_tag h) (λ _. h) listed
               (rw (used, ec, en, ← kind, l.read.tag) at (j σ l.images))
 
--- 3. The step taken into the clause table.
+-- 3. A DELETE: it has no clause and no witness, so that its numbers come first, and the table holds the images of none.
+module _ {f p : File} {at vars next : ℕ} {words t : List ℕ} {s : StepRead} (c : Checkable f p at s vars next words t) (d : s.kind ≡ Delete) where
+  deletes : get_or p at 0 ≡ 0x14
+  deletes = sym c.read.tag ∙ ap tag_of d
+
+  bare_clause : clause_of p s.fields ≡ []
+  bare_clause = no_codes p s.fields.clause ((lie p at s.fields c.read.fields).without_clause deletes)
+
+  bare_witness : codes (payload p s.fields.witness) ≡ []
+  bare_witness = no_codes p s.fields.witness ((lie p at s.fields c.read.fields).without_witness deletes)
+
+  delete_loadable : Loadable f p at s vars next words t
+  unfolding check_clause each check_mappings no_two mappings ◌>>◌ result_of said_by table_after loaded
+  delete_loadable =
+      loadable c {C = payload p s.fields.clause} {w = payload p s.fields.witness} refl {o = tt} (rw bare_clause refl) refl {n = tt} (rw bare_witness refl) t refl
+      {m = tt} (λ why q. rw bare_witness refl) t (rw bare_witness refl)
+
+  pub delete_judged : {numbers : List ℕ} → numbers ≡ payload p s.fields.numbers → (r : Result (Unit {0}) Fault)
+      → r ≡ result_of (rest (live f p words) at s.kind s.fields.numbers.start (codes numbers) next) → JudgementIs p vars (live f p words) next at s.fields r
+  delete_judged en (Ok u) q = delete_passes delete_loadable en q d
+  delete_judged en (Err e) q = rest_stops delete_loadable en e q
+
+-- 4. The step taken into the clause table.
 module _ {f p : File} {at vars next : ℕ} {words t : List ℕ} (r : Ready f p at vars next words t) where
   pub fields_stop : (e : Fault) → read_fields p at ≡ bad e.reason e.place → Done f p at vars next words t (Err e) words t
   fields_stop e q = record { answer = step.unread (fields_refuse p vars (live f p words) next at _ _ q); after = refl; table = refl }

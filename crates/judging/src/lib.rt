@@ -186,6 +186,33 @@ fn judge_fields<'a>(
     judgement
 }
 
+// A DELETE has no clause and no witness, and goes straight to its numbers: a proof may be almost all DELETE steps.
+fn judge_step<'a>(
+    formula: &'a [u8],
+    proof: &'a [u8],
+    first: Cursor,
+    s: StepRead,
+    vars: usize,
+    next: usize,
+    words: &[u32],
+    t: &mut [u8],
+) -> Result<(), Fault>
+    requires { Checkable formula.now proof.now first.at s vars next words.now t.old }
+    ensures answer { JudgementIs proof.now vars (live formula.now proof.now words.now) next first.at s.fields result }
+    ensures table { t.new ≡ t.old }
+{
+    match s.kind {
+        Kind::Delete => {
+            let numbers = Part {
+                bytes: field::payload(proof, s.fields.numbers),
+                start: s.fields.numbers.start,
+            };
+            check_rest(numbers, first, s.kind, next, words)
+        }
+        _ => judge_fields(formula, proof, first, s, vars, next, words, t),
+    }
+}
+
 // A step that is taken leaves the next number and the cursor past it.
 #[derive(Clone, Copy)]
 pub struct Taken {
@@ -206,7 +233,7 @@ pub fn take_step<'a>(
     ensures { Done formula.now proof.now first.at vars next words.old t.old result words.new t.new }
 {
     let s = steps::read_fields(proof, first)?;
-    judge_fields(formula, proof, first, s, vars, next, words, t)?;
+    judge_step(formula, proof, first, s, vars, next, words, t)?;
     steps::remove_numbers(field::payload(proof, s.fields.numbers), words);
     let later = s.next;
     match s.kind {

@@ -95,6 +95,8 @@ pub record Lie (f : File) (at : ℕ) (x : Fields) : Type 0 where
   -- the new clause is the payload of the field whose tag is the step's
   pub new : get_or f at 0 ≢ 0x14 → field ProofField (get_or f at 0) even f at ≡ ok x.clause
   pub no_numbers : get_or f at 0 < 0x13 → x.numbers.size ≡ 0
+  pub without_clause : get_or f at 0 ≡ 0x14 → x.clause.size ≡ 0
+  pub without_witness : get_or f at 0 ≡ 0x14 → x.witness.size ≡ 0
 
 -- 3. The paper's reading of a step's fields, by what stands at each place. c, w and n are the fields found one after the other.
 module _ (f : File) (at : ℕ) where
@@ -157,6 +159,8 @@ module _ (f : File) (at : ℕ) where
                 inside = clause_lies.within;
                 new = λ ne. absurd (ne e);
                 no_numbers = λ l. absurd (omega arith);
+                without_clause = λ _. none;
+                without_witness = λ _. none;
               }
 
           new_lies : get_or f at 0 ≢ 0x14 → Lie f at (record { clause = c; witness = w; numbers = n; next = past n })
@@ -179,6 +183,8 @@ module _ (f : File) (at : ℕ) where
                 inside = modulo_lies.within;
                 new = λ _. hc;
                 no_numbers = λ l. modulo_lies.unasked (eqb_other (get_or f at 0) 0x13 (omega arith));
+                without_clause = λ e. absurd (ne e);
+                without_witness = λ e. absurd (ne e);
               }
 
           either_lies : (b : Bool) → eqb (get_or f at 0) 0x14 ≡ b

@@ -14,13 +14,13 @@ returns-in_err-s c =
     let p = err_from_is_err_and c.from_residual.result c.from_residual.ensures.1 in
     rw (p.1, p.2) (fields_stop c.requires _ c.in_err-s.ensures)
 
-pub judge_fields-requires : goal.judge_fields-requires
-judge_fields-requires c = record { ready = c.requires; read = c.in_ok-s.ensures }
+pub judge_step-requires : goal.judge_step-requires
+judge_step-requires c = record { ready = c.requires; read = c.in_ok-s.ensures }
 
-pub returns-in_err-judge_fields : goal.returns-in_err-judge_fields
-returns-in_err-judge_fields c =
-    let p = err_from_is_err_and c.from_residual-in_err-judge_fields.result c.from_residual-in_err-judge_fields.ensures.1 in
-    rw (p.1, p.2) (step_stopped c.requires _ c.in_ok-s.ensures _ c.judge_fields.ensures.table _ c.in_err-judge_fields.ensures.answer)
+pub returns-in_err-judge_step : goal.returns-in_err-judge_step
+returns-in_err-judge_step c =
+    let p = err_from_is_err_and c.from_residual-in_err-judge_step.result c.from_residual-in_err-judge_step.ensures.1 in
+    rw (p.1, p.2) (step_stopped c.requires _ c.in_ok-s.ensures _ c.judge_step.ensures.table _ c.in_err-judge_step.ensures.answer)
 
 pub payload-requires : goal.payload-requires
 payload-requires c = (lie _ _ _ c.in_ok-s.ensures.fields).numbers_within
@@ -28,12 +28,12 @@ payload-requires c = (lie _ _ _ c.in_ok-s.ensures.fields).numbers_within
 pub remove_numbers-requires : goal.remove_numbers-requires
 remove_numbers-requires c =
     let ready = c.requires in
-    let used = numbers_used ready _ c.in_ok-s.ensures _ c.judge_fields.ensures.table c.in_ok-judge_fields.ensures.answer in
+    let used = numbers_used ready _ c.in_ok-s.ensures _ c.judge_step.ensures.table c.in_ok-judge_step.ensures.answer in
     (omega (arith, ready.words_long), λ n q. omega (arith, used n (rw c.payload.ensures.bytes at q), ready.last, ready.words_long))
 
 pub returns-in-Delete : goal.returns-in-Delete
 returns-in-Delete c =
-    deleted_done c.requires _ c.in_ok-s.ensures _ c.judge_fields.ensures.table c.in_ok-judge_fields.ensures.answer _ (rw c.payload.ensures.bytes at c.remove_numbers.ensures) c.in-Delete.is
+    deleted_done c.requires _ c.in_ok-s.ensures _ c.judge_step.ensures.table c.in_ok-judge_step.ensures.answer _ (rw c.payload.ensures.bytes at c.remove_numbers.ensures) c.in-Delete.is
 
 pub proof_word-requires : goal.proof_word-requires
 proof_word-requires c = omega (arith, c.requires.place, c.requires.proof_short)
@@ -41,7 +41,7 @@ proof_word-requires c = omega (arith, c.requires.place, c.requires.proof_short)
 pub enter-requires : goal.enter-requires
 enter-requires c =
     let ready = c.requires in
-    let free = number_free ready _ c.in_ok-s.ensures _ c.judge_fields.ensures.table c.in_ok-judge_fields.ensures.answer c.in_default.not-Delete in
+    let free = number_free ready _ c.in_ok-s.ensures _ c.judge_step.ensures.table c.in_ok-judge_step.ensures.answer c.in_default.not-Delete in
     let long = ap length c.remove_numbers.ensures ∙ removed_length _ c.args.words.now in
     omega (arith, long, free, ready.words_long)
 
@@ -50,4 +50,4 @@ overflow_add-result c = omega (arith, c.requires.last)
 
 pub returns-in_default : goal.returns-in_default
 returns-in_default c =
-    added_done c.requires _ c.in_ok-s.ensures _ c.judge_fields.ensures.table c.in_ok-judge_fields.ensures.answer _ (rw c.payload.ensures.bytes at c.remove_numbers.ensures) c.in_default.not-Delete _ _ c.enter.ensures c.proof_word.ensures
+    added_done c.requires _ c.in_ok-s.ensures _ c.judge_step.ensures.table c.in_ok-judge_step.ensures.answer _ (rw c.payload.ensures.bytes at c.remove_numbers.ensures) c.in_default.not-Delete _ _ c.enter.ensures c.proof_word.ensures
