@@ -36,12 +36,17 @@ module _ (b : Bool) (tag : ℕ) (allowed : ℕ → Bool) (f : File) (at : ℕ) w
   same_fault None m = refl
   same_fault (Some d) m = refl
 
-  pub asked : b ≡ true → (r : Result Found Fault) → r ≡ found_of (field ProofField tag allowed f at) → (o : Option Found) → o ≡ result_ok r
-      → ok_or o (missing at) ≡ found_of (field_if b tag allowed f at)
+  pub asked : b ≡ true → (r : Result Found Fault) → r ≡ found_of (field ProofField tag allowed f at) → r ≡ found_of (field_if b tag allowed f at)
   unfolding field_if
-  asked e r q o h =
+  asked e r q = rw e q
+
+  -- of that reading what was found, as an Option
+  pub asked_value : b ≡ true → (r : Result Found Fault) → r ≡ found_of (field ProofField tag allowed f at) → (o : Option Found) → o ≡ result_ok r
+      → ok_or o (missing at) ≡ found_of (field_if b tag allowed f at)
+  asked_value e r q o h =
       let j = judged_right ProofField tag allowed f at in
-      rw e (ap (λ (x : Option Found). ok_or x (missing at)) (h ∙ ap result_ok q) ∙ ap (λ (x : Result Found Fault). ok_or (result_ok x) (missing at)) (sym j) ∙ same_fault _ _ ∙ j)
+      ap (λ (x : Option Found). ok_or x (missing at)) (h ∙ ap result_ok q) ∙ ap (λ (x : Result Found Fault). ok_or (result_ok x) (missing at)) (sym j) ∙ same_fault _ _ ∙ j
+      ∙ asked e _ refl
 
   pub not_asked : b ≡ false → Ok (record { extent = record { start = at; size = 0 }; next = record { at = at } }) ≡ found_of (field_if b tag allowed f at)
   unfolding field_if found_of past
